@@ -1,6 +1,6 @@
 -- Each public contract of this crate settles its answer. Assumes nothing.
 use mathlib.Core.Path.{sym, _∙_}
-use Rattle.digest.specs.Settled.{Settled}
+use Rattle.settled.specs.Settled.{Settled}
 use Rattle.digest.proofs.sha256.Kinds as sha256-kinds
 use Rattle.digest.proofs.sha256.Reads as sha256-reads
 

@@ -1,4 +1,3 @@
 pub mod Sha256
 pub mod Digest
-pub mod Settled
 pub mod Vectors

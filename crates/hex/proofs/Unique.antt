@@ -1,0 +1,11 @@
+-- Each public contract of this crate settles its answer. Assumes nothing.
+use mathlib.Core.Path.{ap, sym, _∙_}
+use mathlib.Core.List.{List}
+use Prim.Native.Nat.{ℕ}
+use Rattle.hex.specs.declared.Line.{Line}
+use Rattle.settled.specs.Settled.{Settled}
+use Rattle.hex.proofs.Line.of.Kinds as of-kinds
+use Rattle.hex.proofs.Line.of.Reads as of-reads
+
+pub of-settled : Settled 0 of-kinds.ps of-kinds.r of-reads.Post
+of-settled κs a x y e f p q = ap (λ (t : List ℕ). record { text = t }) (p ∙ sym q)
