@@ -1,0 +1,5 @@
+pub mod Bits
+pub mod Typed
+pub mod Lists
+pub mod Sends
+pub mod Bytes

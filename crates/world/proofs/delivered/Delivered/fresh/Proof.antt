@@ -1,0 +1,10 @@
+use Rattle.world.specs.Delivered.{freshDelivered}
+use Rattle.world.proofs.delivered.Delivered.fresh.Statement.{statement}
+use Rattle.world.proofs.delivered.Delivered.fresh.Tie as tie
+
+returns : tie.Need-returns
+unfolding freshDelivered
+returns c = cc
+
+pub fresh-spec : {M : Type 1} → statement M
+fresh-spec = tie.close (tie.spec returns)

@@ -1,0 +1,57 @@
+-- The entries that one server holds. "The lowest free place is always the next one used."
+use Prim.Native.Nat.{ℕ}
+use mathlib.Core.Bool.{Bool, not, _&&_}
+use lib.Dec.{eqb}
+use lib.ListN.{getD, set, replicate}
+use Rattle.search.specs.declared.Found.{Found}
+use Rattle.search.specs.declared.Found.the-variants.{At, Nothing}
+use Rattle.search.specs.Search.{first, any}
+use Rattle.world.specs.declared.hold.Entry.{Entry}
+use Rattle.world.specs.declared.hold.Hold.{Hold}
+use Rattle.world.specs.Sizes.{holdPlaces}
+
+-- an entry of a sending at a stage, with its number (0 before stage three); a free place is all zeros
+abbrev pub entryOf : ℕ → ℕ → ℕ → ℕ → ℕ → Entry
+entryOf stage sender id slot number = record { number = number; id = id; stage = stage; sender = sender; slot = slot }
+
+abbrev pub freeEntry : Entry
+freeEntry = entryOf 0 0 0 0 0
+
+unfoldable pub freshHold : Hold
+freshHold = record { places = replicate holdPlaces freeEntry }
+
+-- the entry at a place; past the places there is none
+abbrev pub entryAt : Hold → ℕ → Entry
+entryAt h place = getD (h .places) place freeEntry
+
+-- an entry of this sender, id and slot, at any stage
+abbrev pub isEntry : Entry → ℕ → ℕ → ℕ → Bool
+isEntry e sender id slot = not (eqb (e .stage) 0) && eqb (e .sender) sender && eqb (e .id) id && eqb (e .slot) slot
+
+abbrev pub holding : Hold → ℕ → ℕ → ℕ → Bool
+holding h sender id slot = any (λ (k : ℕ). isEntry (entryAt h k) sender id slot) holdPlaces
+
+-- an entry at stage three that has the number, and the lowest place of one
+abbrev pub isReady : Entry → ℕ → Bool
+isReady e number = eqb (e .stage) 3 && eqb (e .number) number
+
+abbrev pub readyPlace : Hold → ℕ → Found
+readyPlace h number = first (λ (k : ℕ). isReady (entryAt h k) number) holdPlaces
+
+-- the lowest free place
+abbrev pub vacancy : Hold → Found
+vacancy h = first (λ (k : ℕ). eqb (entryAt h k .stage) 0) holdPlaces
+
+abbrev pub put : Hold → ℕ → Entry → Hold
+put h place e = record { places = set (h .places) place e }
+
+abbrev pub freed : Hold → ℕ → Hold
+freed h place = put h place freeEntry
+
+-- an entry more, at the lowest free place
+unfoldable pub keptAt : Hold → Entry → Found → Hold
+keptAt h e (At place) = put h place e
+keptAt h e Nothing = h
+
+unfoldable pub kept : Hold → Entry → Hold
+kept h e = keptAt h e (vacancy h)

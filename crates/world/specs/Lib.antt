@@ -1,0 +1,9 @@
+pub mod Sizes
+pub mod Masks
+pub mod Roster
+pub mod Requests
+pub mod Executions
+pub mod Outgoing
+pub mod Hold
+pub mod Delivered
+pub mod Fresh

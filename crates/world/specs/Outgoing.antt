@@ -1,0 +1,69 @@
+-- The packets of one origin. "The lowest free place is always the next one used."
+use Prim.Native.Nat.{ℕ, zero, suc}
+use mathlib.Core.Bool.{Bool, true, false, cond, not, _&&_}
+use lib.Dec.{eqb}
+use lib.ListN.{getD, set, replicate}
+use Rattle.search.specs.declared.Found.{Found}
+use Rattle.search.specs.declared.Found.the-variants.{At, Nothing}
+use Rattle.search.specs.Search.{first, count}
+use Rattle.world.specs.declared.roster.Roster.{Roster}
+use Rattle.world.specs.declared.outgoing.Packet.{Packet}
+use Rattle.world.specs.declared.outgoing.Sending.{Sending}
+use Rattle.world.specs.declared.outgoing.Outgoing.{Outgoing}
+use Rattle.world.specs.Sizes.{servers, outgoingPlaces}
+use Rattle.world.specs.Masks.{has}
+use Rattle.world.specs.Roster.{member}
+
+-- a free place: all zeros
+abbrev pub freePacket : Packet
+freePacket = record { id = 0; there = false; to = 0; sender = 0; slot = 0 }
+
+abbrev pub packetFor : ℕ → Sending → Packet
+packetFor to s = record { id = s .id; there = true; to = to; sender = s .sender; slot = s .slot }
+
+unfoldable pub freshOutgoing : Outgoing
+freshOutgoing = record { places = replicate outgoingPlaces freePacket }
+
+-- the packet at a place; past the places there is none
+abbrev pub packetAt : Outgoing → ℕ → Packet
+packetAt o place = getD (o .places) place freePacket
+
+abbrev pub isFree : Outgoing → ℕ → Bool
+isFree o place = not (packetAt o place .there)
+
+-- the lowest free place, and how many there are
+abbrev pub freePlace : Outgoing → Found
+freePlace o = first (λ (k : ℕ). isFree o k) outgoingPlaces
+
+abbrev pub freePlaces : Outgoing → ℕ
+freePlaces o = count (λ (k : ℕ). isFree o k) outgoingPlaces
+
+abbrev pub putPacket : Outgoing → ℕ → Packet → Outgoing
+putPacket o place p = record { places = set (o .places) place p }
+
+abbrev pub cleared : Outgoing → ℕ → Outgoing
+cleared o place = putPacket o place freePacket
+
+-- a packet more, at the lowest free place
+unfoldable pub postedAt : Outgoing → Packet → Found → Outgoing
+postedAt o p (At place) = putPacket o place p
+postedAt o p Nothing = o
+
+unfoldable pub posted : Outgoing → Packet → Outgoing
+posted o p = postedAt o p (freePlace o)
+
+-- a server outside the mask, the sending one excepted; with nobody in the mask, each other server
+abbrev pub recipient : Roster → ℕ → ℕ → ℕ → Bool
+recipient r mask server to = member r to && not (has mask to) && not (eqb to server)
+
+-- how many such servers there are
+abbrev pub needed : Roster → ℕ → ℕ → ℕ
+needed r mask server = count (λ (to : ℕ). recipient r mask server to) servers
+
+-- one packet for each of them, ascending: up to the first n servers, and up to all
+unfoldable pub sentBelow : Roster → ℕ → ℕ → Sending → Outgoing → ℕ → Outgoing
+sentBelow r mask server s o zero = o
+sentBelow r mask server s o (suc n) = let p = sentBelow r mask server s o n in cond (recipient r mask server n) (posted p (packetFor n s)) p
+
+abbrev pub sent : Roster → ℕ → ℕ → Sending → Outgoing → Outgoing
+sent r mask server s o = sentBelow r mask server s o servers

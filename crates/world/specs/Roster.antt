@@ -1,0 +1,23 @@
+-- Document 01, "Sizes": servers, f and T.
+use Prim.Native.Nat.{ℕ, _+_, _-_, _/_}
+use mathlib.Core.Bool.{Bool, not, _&&_}
+use lib.Dec.{ltb}
+use Rattle.world.specs.declared.roster.Roster.{Roster}
+use Rattle.world.specs.Masks.{has}
+
+-- servers are named 0 to n−1
+abbrev pub member : Roster → ℕ → Bool
+member r server = ltb server (r .n)
+
+abbrev pub faulty : Roster → ℕ → Bool
+faulty r server = has (r .faulty) server
+
+abbrev pub correct : Roster → ℕ → Bool
+correct r server = member r server && not (faulty r server)
+
+-- f = (n−1)/2 rounded down, T = f + 1
+abbrev pub faults : Roster → ℕ
+faults r = (r .n - 1) / 2
+
+abbrev pub threshold : Roster → ℕ
+threshold r = faults r + 1

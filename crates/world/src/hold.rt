@@ -1,0 +1,155 @@
+// The entries that one server holds, each at a stage.
+ghost use mathlib.Core.Path.{_≡_};
+ghost use Rattle.world.specs.Hold.{entryOf, freeEntry, freshHold, entryAt, isEntry, holding, isReady, readyPlace, vacancy, kept, put};
+use search::Found;
+
+pub struct Entry {
+    // 0 until stage three.
+    pub number: u32,
+    pub id: u16,
+    // 0 at a free place.
+    pub stage: u8,
+    pub sender: u8,
+    pub slot: u8,
+}
+
+pub struct Hold {
+    pub places: [Entry; Hold::PLACES],
+}
+
+impl Entry {
+    pub const FREE: u8 = 0;
+    pub const ONE: u8 = 1;
+    pub const TWO: u8 = 2;
+    pub const THREE: u8 = 3;
+
+    // A free place.
+    pub fn free() -> Entry
+        ensures { λ r. ⌜ r ≡ freeEntry ⌝ }
+    {
+        Entry::new(Entry::FREE, 0, 0, 0, 0)
+    }
+
+    // An entry of a sending at a stage, with its number.
+    pub fn new(stage: u8, sender: u8, id: u16, slot: u8, number: u32) -> Entry
+        ensures { λ r. ⌜ r ≡ entryOf stage sender id slot number ⌝ }
+    {
+        Entry {
+            number,
+            id,
+            stage,
+            sender,
+            slot,
+        }
+    }
+
+    // Whether it is an entry of this sender, id and slot, at any stage.
+    pub fn is_of(self, sender: u8, id: u16, slot: u8) -> bool
+        ensures { λ r. ⌜ r ≡ isEntry self sender id slot ⌝ }
+    {
+        (self.stage != Entry::FREE) & (self.sender == sender) & (self.id == id) & (self.slot == slot)
+    }
+
+    // Whether it is at stage three with this number.
+    pub fn is_ready(self, number: u32) -> bool
+        ensures { λ r. ⌜ r ≡ isReady self number ⌝ }
+    {
+        (self.stage == Entry::THREE) & (self.number == number)
+    }
+}
+
+impl Hold {
+    pub const PLACES: usize = 64;
+
+    // Every place free.
+    pub fn fresh() -> Hold
+        ensures { λ r. ⌜ r ≡ freshHold ⌝ }
+    {
+        Hold {
+            places: [Entry::free(); Hold::PLACES],
+        }
+    }
+
+    // The entry at a place; past the places, a free one.
+    pub fn at(self, place: u8) -> Entry
+        ensures { λ r. ⌜ r ≡ entryAt self place ⌝ }
+    {
+        let k = place as usize;
+        if Hold::PLACES <= k {
+            return Entry::free();
+        }
+        self.places[k]
+    }
+
+    // Whether an entry of this sender, id and slot is held.
+    pub fn holds(self, sender: u8, id: u16, slot: u8) -> bool
+        ensures { λ r. ⌜ r ≡ holding self sender id slot ⌝ }
+    {
+        let mut k: usize = 0;
+        loop {
+            if k == Hold::PLACES {
+                break false;
+            }
+            if self.places[k].is_of(sender, id, slot) {
+                break true;
+            }
+            k += 1;
+        }
+    }
+
+    // The lowest place with an entry at stage three that has this number.
+    pub fn ready(self, number: u32) -> Found
+        ensures { λ r. ⌜ r ≡ readyPlace self number ⌝ }
+    {
+        let mut k: usize = 0;
+        loop {
+            if k == Hold::PLACES {
+                break Found::Nothing;
+            }
+            if self.places[k].is_ready(number) {
+                break Found::At(k);
+            }
+            k += 1;
+        }
+    }
+
+    // The lowest free place.
+    pub fn free(self) -> Found
+        ensures { λ r. ⌜ r ≡ vacancy self ⌝ }
+    {
+        let mut k: usize = 0;
+        loop {
+            if k == Hold::PLACES {
+                break Found::Nothing;
+            }
+            if self.places[k].stage == Entry::FREE {
+                break Found::At(k);
+            }
+            k += 1;
+        }
+    }
+
+    // The entry at the lowest free place; where there is none, the hold as it was.
+    pub fn keep(self, entry: Entry) -> Hold
+        ensures { λ r. ⌜ r ≡ kept self entry ⌝ }
+    {
+        let Found::At(k) = self.free() else {
+            return self;
+        };
+        let mut h = self;
+        h.places[k] = entry;
+        h
+    }
+
+    // Another entry at a place. Past the places, nothing changes.
+    pub fn put(self, place: usize, entry: Entry) -> Hold
+        ensures { λ r. ⌜ r ≡ put self place entry ⌝ }
+    {
+        if Hold::PLACES <= place {
+            return self;
+        }
+        let mut h = self;
+        h.places[place] = entry;
+        h
+    }
+}

@@ -1,0 +1,44 @@
+// Who takes part, and who of them is faulty.
+ghost use mathlib.Core.Path.{_≡_};
+ghost use Rattle.world.specs.Roster.{member, faulty, faults, threshold};
+use crate::mask::has;
+
+pub struct Roster {
+    pub n: u8,
+    pub faulty: u8,
+}
+
+impl Roster {
+    pub const MOST: u8 = 8;
+
+    // Whether there is a server of this name.
+    pub fn member(self, server: u8) -> bool
+        ensures { λ r. ⌜ r ≡ member self server ⌝ }
+    {
+        server < self.n
+    }
+
+    // Whether a server is faulty.
+    pub fn is_faulty(self, server: u8) -> bool
+        ensures { λ r. ⌜ r ≡ faulty self server ⌝ }
+    {
+        has(self.faulty, server)
+    }
+
+    // f, the most servers that may be faulty.
+    pub fn faults(self) -> u8
+        ensures { λ r. ⌜ r ≡ faults self ⌝ }
+    {
+        if self.n == 0 {
+            return 0;
+        }
+        (self.n - 1) / 2
+    }
+
+    // T, the proposals that give a number.
+    pub fn threshold(self) -> u32
+        ensures { λ r. ⌜ r ≡ threshold self ⌝ }
+    {
+        self.faults() as u32 + 1
+    }
+}
