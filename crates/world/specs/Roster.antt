@@ -3,6 +3,8 @@ use Prim.Native.Nat.{ℕ, _+_, _-_, _/_}
 use mathlib.Core.Bool.{Bool, not, _&&_}
 use lib.Dec.{ltb}
 use Rattle.world.specs.declared.roster.Roster.{Roster}
+use Rattle.search.specs.Search.{any}
+use Rattle.world.specs.Sizes.{servers}
 use Rattle.world.specs.Masks.{has}
 
 -- servers are named 0 to n−1
@@ -14,6 +16,10 @@ faulty r server = has (r .faulty) server
 
 abbrev pub correct : Roster → ℕ → Bool
 correct r server = member r server && not (faulty r server)
+
+-- a mask with a bit at n or above
+abbrev pub strays : Roster → ℕ → Bool
+strays r mask = any (λ (i : ℕ). has mask i && not (member r i)) servers
 
 -- f = (n−1)/2 rounded down, T = f + 1
 abbrev pub faults : Roster → ℕ

@@ -19,8 +19,11 @@ pub struct Hold {
 
 impl Entry {
     pub const FREE: u8 = 0;
+
     pub const ONE: u8 = 1;
+
     pub const TWO: u8 = 2;
+
     pub const THREE: u8 = 3;
 
     // A free place.
@@ -47,7 +50,10 @@ impl Entry {
     pub fn is_of(self, sender: u8, id: u16, slot: u8) -> bool
         ensures { λ r. ⌜ r ≡ isEntry self sender id slot ⌝ }
     {
-        (self.stage != Entry::FREE) & (self.sender == sender) & (self.id == id) & (self.slot == slot)
+        (self.stage != Entry::FREE)
+            & (self.sender == sender)
+            & (self.id == id)
+            & (self.slot == slot)
     }
 
     // Whether it is at stage three with this number.

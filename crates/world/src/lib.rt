@@ -23,6 +23,7 @@ pub use mask::join;
 pub use outgoing::Outgoing;
 pub use outgoing::Packet;
 pub use outgoing::Sending;
+pub use outgoing::recipients;
 pub use request::Request;
 pub use request::Requests;
 pub use request::same_digest;

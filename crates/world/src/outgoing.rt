@@ -158,7 +158,7 @@ impl Outgoing {
 }
 
 // Whether a server is outside the mask, and another than the sending one.
-pub fn is_recipient(roster: Roster, mask: u8, server: u8, to: u8) -> bool
+fn is_recipient(roster: Roster, mask: u8, server: u8, to: u8) -> bool
     ensures { λ r. ⌜ r ≡ recipient roster mask server to ⌝ }
 {
     roster.member(to) & !has(mask, to) & (to != server)

@@ -1,6 +1,6 @@
 // Who takes part, and who of them is faulty.
 ghost use mathlib.Core.Path.{_≡_};
-ghost use Rattle.world.specs.Roster.{member, faulty, faults, threshold};
+ghost use Rattle.world.specs.Roster.{member, faulty, strays, faults, threshold};
 use crate::mask::has;
 
 pub struct Roster {
@@ -23,6 +23,22 @@ impl Roster {
         ensures { λ r. ⌜ r ≡ faulty self server ⌝ }
     {
         has(self.faulty, server)
+    }
+
+    // Whether a mask has a bit at n or above.
+    pub fn strays(self, mask: u8) -> bool
+        ensures { λ r. ⌜ r ≡ strays self mask ⌝ }
+    {
+        let mut i: u8 = 0;
+        loop {
+            if i == Roster::MOST {
+                break false;
+            }
+            if has(mask, i) & !self.member(i) {
+                break true;
+            }
+            i += 1;
+        }
     }
 
     // f, the most servers that may be faulty.

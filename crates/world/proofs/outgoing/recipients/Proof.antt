@@ -31,7 +31,7 @@ loop-less : tie.Need-loop-less Inv-loop μ-loop
 loop-less c = search needs
 
 loop-again : tie.Need-loop-again Inv-loop μ-loop
-loop-again c = 
+loop-again c =
     let r = c .before in
     let e = r .before .before .loop .inv .1 .1 in
     let t = sym (r .is-recipient .ensures) in (

@@ -14,7 +14,7 @@ next-requires : tie.Need-next-requires
 next-requires c κs = search needs
 
 returns : tie.Need-returns
-returns c = 
+returns c =
     let s = c .before .before .before in
     let d : Delivered = s .args .self in
     let l = delivered-items d (s .good .0 .0) (s .good .0 .1 .1) in

@@ -16,7 +16,7 @@ threshold-requires c κs = search needs
 
 returns-2 : tie.Need-returns-2
 unfolding ordered
-returns-2 c = 
+returns-2 c =
     let a = c .before .before .before .before .before .args in
     let n : ones (a .self .mask) ≡ threshold (a .roster) → ⊥ = λ e. c .if2 .taken (e ∙ sym (c .before .threshold .ensures)) in
     rw (eq-eqb _ _ (c .before .before .before .if1 .left), ne-eqb _ _ n)
@@ -26,7 +26,7 @@ wrapping-add-u32-requires c κs = search needs
 
 returns-3 : tie.Need-returns-3
 unfolding ordered
-returns-3 c = 
+returns-3 c =
     let e = c .before .before .if2 .left ∙ c .before .before .before .threshold .ensures in
     rw (eq-eqb _ _ (c .before .before .before .before .before .if1 .left), eq-eqb _ _ e, c .before .wrapping-add-u32 .ensures)
 

@@ -10,7 +10,7 @@ free-requires : tie.Need-free-requires
 free-requires c κs = search needs
 
 returns : tie.Need-returns
-returns c = 
+returns c =
     let s = c .before .before in
     let l = hold-places (s .args .t1) (s .good .0 .0) (s .good .0 .1 .1) in
     c .free .ensures ∙ sym (getD-out (s .args .t1 .places) (s .args .place) _ (omega arith))

@@ -10,7 +10,7 @@ use Rattle.world.proofs.hold.Hold.put.Statement.{statement}
 use Rattle.world.proofs.hold.Hold.put.Tie as tie
 
 returns : tie.Need-returns
-returns c = 
+returns c =
     let s = c .before in
     let h : Hold = s .args .self in
     let l = hold-places h (s .good .0 .0) (s .good .0 .1 .1) in

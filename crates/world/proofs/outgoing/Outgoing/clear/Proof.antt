@@ -11,7 +11,7 @@ use Rattle.world.proofs.outgoing.Outgoing.clear.Statement.{statement}
 use Rattle.world.proofs.outgoing.Outgoing.clear.Tie as tie
 
 returns : tie.Need-returns
-returns c = 
+returns c =
     let s = c .before in
     let o : Outgoing = s .args .self in
     let l = outgoing-places o (s .good .0 .0) (s .good .0 .1 .1) in

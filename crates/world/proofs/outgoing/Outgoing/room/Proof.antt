@@ -34,7 +34,7 @@ loop-less : tie.Need-loop-less Inv-loop μ-loop
 loop-less c = search needs
 
 loop-again : tie.Need-loop-again Inv-loop μ-loop
-loop-again c = 
+loop-again c =
     let e = c .before .before .loop .inv .1 .1 in (
       search needs,
       ⊎-elim (λ w. (omega arith, counted-yes _ _ _ _ e (w .0 .taken) (w .1))) (λ w. (omega arith, counted-no _ _ _ _ e (w .0 .left) (w .1))) (c .if1 .came),

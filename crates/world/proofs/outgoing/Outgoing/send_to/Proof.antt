@@ -17,7 +17,7 @@ post-requires : tie.Need-post-requires
 post-requires c κs = search needs
 
 returns-2 : tie.Need-returns-2
-returns-2 c = 
+returns-2 c =
     rw (sym (c .before .before .before .is-recipient .ensures) ∙ not-no _ (c .before .before .if1 .left), c .post .ensures, c .before .new .ensures)
 
 pub send-to-spec : {M : Type 1} → statement M

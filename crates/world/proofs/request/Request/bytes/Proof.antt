@@ -55,7 +55,7 @@ array-write-b-6 c = search needs
 
 loop-holds : tie.Need-loop-holds Inv-loop μ-loop
 unfolding head
-loop-holds c = 
+loop-holds c =
     let r = c .args .t1 in
     let e : r .number ≡ r .number / 2 ^ 0 = omega arith in
     (search needs, (refl, ap (λ (y : ℕ). r .client ∷ r .number / 2 ^ 24 % 256 ∷ r .number / 2 ^ 16 % 256 ∷ r .number / 2 ^ 8 % 256 ∷ y % 256 ∷ r .seals ∷ []) e))
@@ -76,7 +76,7 @@ loop-less : tie.Need-loop-less Inv-loop μ-loop
 loop-less c = search needs
 
 loop-again : tie.Need-loop-again Inv-loop μ-loop
-loop-again c = 
+loop-again c =
     let s = c .before .before .before in
     let a = c .before .before .loop in
     let l = request-command (s .args .t1) (s .good .0 .0) (s .good .0 .1 .1) in
@@ -84,7 +84,7 @@ loop-again c =
 
 returns : tie.Need-returns Inv-loop μ-loop
 unfolding head requestBytes
-returns c = 
+returns c =
     let s = c .before .before in
     let a = c .before .loop in
     let r : Request = s .args .t1 in

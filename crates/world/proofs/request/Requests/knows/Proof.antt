@@ -38,7 +38,7 @@ loop-less : tie.Need-loop-less Inv-loop μ-loop
 loop-less c = omega arith
 
 loop-again : tie.Need-loop-again Inv-loop μ-loop
-loop-again c = 
+loop-again c =
     let r = c .before in
     let t = ap (λ (b : Bool). ltb (r .before .before .before .loop .k) (r .before .before .before .before .args .t1 .count) && b) (sym (r .has-digest .ensures)) in
     passed-more _ _ _ (omega arith) (t ∙ c .if2 .left) (r .before .before .before .loop .inv)
@@ -49,7 +49,7 @@ returns c = ap isFound (passed-all _ _ _ (c .if1 .taken) (c .before .loop .inv))
 
 returns-2 : tie.Need-returns-2 Inv-loop μ-loop
 unfolding knownDigest
-returns-2 c = 
+returns-2 c =
     let r = c .before in
     let t = ap (λ (b : Bool). ltb (r .before .before .before .loop .k) (r .before .before .before .before .args .t1 .count) && b) (sym (r .has-digest .ensures)) in
     ap isFound (passed-here _ _ _ (omega arith) (t ∙ c .if2 .taken) (r .before .before .before .loop .inv))

@@ -1,0 +1,76 @@
+// Request: a client's request is stored.
+ghost use mathlib.Core.Path.{_≡_};
+ghost use Rattle.rules.specs.Rules.{requestFrom, requestOf};
+use crate::answer::Answer;
+use world::Request;
+use world::Requests;
+use world::Roster;
+
+pub struct Requested {
+    pub answer: Answer,
+    pub requests: Requests,
+}
+
+// The request that the fields make, with its digest.
+fn sealed(client: u8, number: u32, seals: u8, command: [u8; Request::COMMAND]) -> Request
+    ensures { λ r. ⌜ r ≡ requestFrom client number seals command ⌝ }
+{
+    let bare = Request {
+        number,
+        client,
+        seals,
+        command,
+        digest: [0; digest::Digest::BYTES],
+    };
+    let bytes = bare.bytes();
+    let digest = digest::sha256(&bytes).bytes;
+    Request {
+        number,
+        client,
+        seals,
+        command,
+        digest,
+    }
+}
+
+// A seal bit at n or above, a stored digest, no slot left: 7, 8, 9. Otherwise stored.
+pub fn request(
+    roster: Roster,
+    requests: Requests,
+    client: u8,
+    number: u32,
+    seals: u8,
+    command: [u8; Request::COMMAND],
+) -> Requested
+    ensures { λ r. ⌜ r ≡ requestOf roster client number seals command requests ⌝ }
+{
+    if roster.strays(seals) {
+        return Requested {
+            answer: Answer::BadField,
+            requests,
+        };
+    }
+    let new = sealed(client, number, seals, command);
+    let d = new.digest;
+    if requests.knows(d) {
+        return Requested {
+            answer: Answer::SameDigest,
+            requests,
+        };
+    }
+    let k = requests.count;
+    let at = k as usize;
+    if Requests::MOST <= at {
+        return Requested {
+            answer: Answer::NoRoom,
+            requests,
+        };
+    }
+    let mut q = requests;
+    q.slots[at] = new;
+    q.count = k + 1;
+    Requested {
+        answer: Answer::Done,
+        requests: q,
+    }
+}
