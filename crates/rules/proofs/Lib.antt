@@ -1,1 +1,1 @@
-pub mod Musts
+pub mod Unique

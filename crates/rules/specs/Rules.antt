@@ -98,6 +98,9 @@ multicastDone r server slot b =
     withOutgoing (withHold (made r server id (b .request .digest) b) (kept (b .hold) (entryOf 2 server id slot 0)))
     (sent r nobody server (record { id = id; sender = server; slot = slot }) (b .outgoing))
 
+abbrev pub roomy : Roster → ℕ → Boxes → Bool
+roomy r server b = leb (needed r nobody server) (freePlaces (b .outgoing)) && isFound (vacancy (b .hold))
+
 unfoldable pub multicastOf : Roster → ℕ → ℕ → Boxes → Stepped
 multicastOf r server slot b =
     must (member r server) (answered BadServer b)
@@ -105,9 +108,8 @@ multicastOf r server slot b =
     (must (ltb slot (b .stored)) (answered NoSuch b)
     (must (has (b .request .seals) server) (answered Dismissed b)
     (must (ltb (b .executions .count) executionsMost) (answered Quota b)
-    (must (leb (needed r nobody server) (freePlaces (b .outgoing))) (answered NoRoom b)
-    (must (isFound (vacancy (b .hold))) (answered NoRoom b)
-    (answered Done (multicastDone r server slot b))))))))
+    (must (roomy r server b) (answered NoRoom b)
+    (answered Done (multicastDone r server slot b)))))))
 
 -- Arrive. "Origin: 4. Place: 6. Recipient faulty, or it holds an entry of equal sender, id and slot: place freed, 1. Hold full: 9, the
 -- packet stays. Otherwise the place is freed and an entry at stage one kept, 0."

@@ -1,22 +1,28 @@
 // The rules of document 01's "Steps, with tests in order": what each kind of step does to the boxes that it touches.
 mod answer;
 mod boxes;
-mod faulty; // forge packet, forge send, forge receive
+mod holding; // an entry freed or raised
 mod orderer; // an execution made, a call recorded
-mod sending; // multicast, arrive
-mod serving; // propose, settle, deliver
-mod storing; // request
+mod arrival;
+mod delivery;
+mod forged_packet;
+mod forged_receive;
+mod forged_send;
+mod proposal;
+mod sending;
+mod settling;
+mod storing;
 
 pub use answer::Answer;
+pub use arrival::arrive;
 pub use boxes::Boxes;
 pub use boxes::Stepped;
-pub use faulty::forge_packet;
-pub use faulty::forge_receive;
-pub use faulty::forge_send;
-pub use sending::arrive;
+pub use delivery::deliver;
+pub use forged_packet::forge_packet;
+pub use forged_receive::forge_receive;
+pub use forged_send::forge_send;
+pub use proposal::propose;
 pub use sending::multicast;
-pub use serving::deliver;
-pub use serving::propose;
-pub use serving::settle;
+pub use settling::settle;
 pub use storing::Requested;
 pub use storing::request;

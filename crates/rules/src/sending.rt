@@ -1,16 +1,13 @@
-// Multicast and arrive: packets out and in.
+// Multicast.
 ghost use mathlib.Core.Path.{_≡_};
 ghost use Prim.Native.Nat.{_<_};
 ghost use Rattle.world.specs.Sizes.{executionsMost};
-ghost use Rattle.world.specs.Outgoing.{cleared};
-ghost use Rattle.rules.specs.Rules.{multicastOf, multicastDone, arriveOf, withOutgoing};
+ghost use Rattle.rules.specs.Rules.{roomy, multicastOf, multicastDone};
 use crate::answer::Answer;
 use crate::boxes::Boxes;
 use crate::boxes::Stepped;
-use search::Found;
 use world::Entry;
 use world::Executions;
-use world::Packet;
 use world::Roster;
 use world::Sending;
 use world::has;
@@ -43,6 +40,14 @@ fn cast(roster: Roster, server: u8, slot: u8, b: Boxes) -> Boxes
     v
 }
 
+// Whether the recipients' packets and the server's own entry have places.
+fn has_room(roster: Roster, server: u8, b: Boxes) -> bool
+    ensures { λ r. ⌜ r ≡ roomy roster server b ⌝ }
+{
+    let needed = recipients(roster, NOBODY, server);
+    (needed <= b.outgoing.room()) & b.hold.has_room()
+}
+
 // A correct server sends a request that it has a good seal for.
 pub fn multicast(roster: Roster, server: u8, slot: u8, b: Boxes) -> Stepped
     ensures { λ r. ⌜ r ≡ multicastOf roster server slot b ⌝ }
@@ -62,48 +67,8 @@ pub fn multicast(roster: Roster, server: u8, slot: u8, b: Boxes) -> Stepped
     if Executions::MOST <= b.executions.count as usize {
         return b.answer(Answer::Quota);
     }
-    if b.outgoing.room() < recipients(roster, NOBODY, server) {
+    if !has_room(roster, server, b) {
         return b.answer(Answer::NoRoom);
     }
-    let Found::At(_) = b.hold.free() else {
-        return b.answer(Answer::NoRoom);
-    };
     cast(roster, server, slot, b).answer(Answer::Done)
-}
-
-// The packet's place freed.
-fn taken(place: u8, b: Boxes) -> Boxes
-    ensures { λ r. ⌜ r ≡ withOutgoing b (cleared (b .outgoing) place) ⌝ }
-{
-    let o = b.outgoing.clear(place);
-    let mut v = b;
-    v.outgoing = o;
-    v
-}
-
-// A packet of an origin reaches its recipient.
-pub fn arrive(roster: Roster, origin: u8, place: u8, b: Boxes) -> Stepped
-    ensures { λ r. ⌜ r ≡ arriveOf roster origin place b ⌝ }
-{
-    if !roster.member(origin) {
-        return b.answer(Answer::BadServer);
-    }
-    let p = b.outgoing.at(place);
-    if !p.there {
-        return b.answer(Answer::NoSuch);
-    }
-    if roster.is_faulty(p.to) {
-        return taken(place, b).answer(Answer::Dropped);
-    }
-    if b.hold.holds(p.sender, p.id, p.slot) {
-        return taken(place, b).answer(Answer::Dropped);
-    }
-    let Found::At(_) = b.hold.free() else {
-        return b.answer(Answer::NoRoom);
-    };
-    let h = b.hold
-        .keep(Entry::new(Entry::ONE, p.sender, p.id, p.slot, 0));
-    let mut v = taken(place, b);
-    v.hold = h;
-    v.answer(Answer::Done)
 }

@@ -3,3 +3,4 @@ pub mod Typed
 pub mod Lists
 pub mod Sends
 pub mod Bytes
+pub mod Unique

@@ -91,7 +91,8 @@ impl Execution {
                 numbered,
             };
         }
-        if u8::count_ones(self.mask) != roster.threshold() {
+        let mask = self.mask;
+        if u8::count_ones(mask) != roster.threshold() {
             return Ordered {
                 execution: self,
                 numbered,
@@ -104,7 +105,7 @@ impl Execution {
                 number: next,
                 id: self.id,
                 called: self.called,
-                mask: self.mask,
+                mask,
                 digest,
             },
             numbered: next,

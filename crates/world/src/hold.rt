@@ -1,5 +1,6 @@
 // The entries that one server holds, each at a stage.
 ghost use mathlib.Core.Path.{_≡_};
+ghost use Rattle.search.specs.Search.{isFound};
 ghost use Rattle.world.specs.Hold.{entryOf, freeEntry, freshHold, entryAt, isEntry, holding, isReady, readyPlace, vacancy, kept, put};
 use search::Found;
 
@@ -133,6 +134,16 @@ impl Hold {
             }
             k += 1;
         }
+    }
+
+    // Whether a place is free.
+    pub fn has_room(self) -> bool
+        ensures { λ r. ⌜ r ≡ isFound (vacancy self) ⌝ }
+    {
+        let Found::At(_) = self.free() else {
+            return false;
+        };
+        true
     }
 
     // The entry at the lowest free place; where there is none, the hold as it was.

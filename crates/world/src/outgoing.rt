@@ -81,15 +81,15 @@ impl Outgoing {
     pub fn free(self) -> Found
         ensures { λ r. ⌜ r ≡ freePlace self ⌝ }
     {
-        let mut k: usize = 0;
+        let mut place: usize = 0;
         loop {
-            if k == Outgoing::PLACES {
+            if place == Outgoing::PLACES {
                 break Found::Nothing;
             }
-            if !self.places[k].there {
-                break Found::At(k);
+            if !self.places[place].there {
+                break Found::At(place);
             }
-            k += 1;
+            place += 1;
         }
     }
 

@@ -1,9 +1,7 @@
-use Rattle.rules.specs.Tests.{must}
 use mathlib.Core.Path.{_≡_, sym, ap, _∙_}
-use mathlib.Core.Bool.{true, false}
 use Rattle.search.proofs.Laws.{not-yes, not-no}
-use borrow.Author.Tests.{lt-ltb, le-ltb, le-leb, lt-leb}
-use Rattle.search.specs.Search.{isFound}
+use Rattle.rules.specs.Tests.{must}
+use borrow.Author.Tests.{lt-ltb, le-ltb}
 use Rattle.rules.specs.Rules.{multicastOf}
 use borrow.Author.Needs.{needs}
 use Rattle.rules.proofs.sending.multicast.Statement.{statement}
@@ -56,44 +54,25 @@ returns-5 : tie.Need-returns-5
 unfolding multicastOf must
 returns-5 c = simp (c .answer5 .ensures, ← c .before .before .before .before .before .before .before .before .before .before .member .ensures, not-no (c .before .before .before .before .before .before .before .before .before .before .member .result) (c .before .before .before .before .before .before .before .before .before .if1 .left), ← c .before .before .before .before .before .before .before .before .is-faulty .ensures, c .before .before .before .before .before .before .before .if2 .left, lt-ltb _ _ (c .before .before .before .before .before .if3 .left), ← c .before .before .before .before .has .ensures, not-no (c .before .before .before .before .has .result) (c .before .before .before .if4 .left), le-ltb _ _ (c .before .if5 .taken))
 
-room-requires : tie.Need-room-requires
-room-requires c κs = search needs
-
-recipients-requires : tie.Need-recipients-requires
-recipients-requires c κs = search needs
+has-room-requires : tie.Need-has-room-requires
+has-room-requires c κs = search needs
 
 answer-requires-6 : tie.Need-answer-requires-6
 answer-requires-6 c κs = search needs
 
 returns-6 : tie.Need-returns-6
 unfolding multicastOf must
-returns-6 c = simp (c .answer6 .ensures, ← c .before .before .before .before .before .before .before .before .before .before .before .before .before .member .ensures, not-no (c .before .before .before .before .before .before .before .before .before .before .before .before .before .member .result) (c .before .before .before .before .before .before .before .before .before .before .before .before .if1 .left), ← c .before .before .before .before .before .before .before .before .before .before .before .is-faulty .ensures, c .before .before .before .before .before .before .before .before .before .before .if2 .left, lt-ltb _ _ (c .before .before .before .before .before .before .before .before .if3 .left), ← c .before .before .before .before .before .before .before .has .ensures, not-no (c .before .before .before .before .before .before .before .has .result) (c .before .before .before .before .before .before .if4 .left), lt-ltb _ _ (c .before .before .before .before .if5 .left), ← c .before .before .before .room .ensures, ← c .before .before .recipients .ensures, lt-leb _ _ (c .before .if6 .taken))
+returns-6 c = simp (c .answer6 .ensures, ← c .before .before .before .before .before .before .before .before .before .before .before .before .member .ensures, not-no (c .before .before .before .before .before .before .before .before .before .before .before .before .member .result) (c .before .before .before .before .before .before .before .before .before .before .before .if1 .left), ← c .before .before .before .before .before .before .before .before .before .before .is-faulty .ensures, c .before .before .before .before .before .before .before .before .before .if2 .left, lt-ltb _ _ (c .before .before .before .before .before .before .before .if3 .left), ← c .before .before .before .before .before .before .has .ensures, not-no (c .before .before .before .before .before .before .has .result) (c .before .before .before .before .before .if4 .left), lt-ltb _ _ (c .before .before .before .if5 .left), ← c .before .before .has-room .ensures, not-yes (c .before .before .has-room .result) (c .before .if6 .taken))
 
-free-requires : tie.Need-free-requires
-free-requires c κs = search needs
-
-enum-told : tie.Need-enum-told
-enum-told c = search needs
-
-enum-told-2 : tie.Need-enum-told-2
-enum-told-2 c = search needs
+cast-requires : tie.Need-cast-requires
+cast-requires c κs = search needs
 
 answer-requires-7 : tie.Need-answer-requires-7
 answer-requires-7 c κs = search needs
 
 returns-7 : tie.Need-returns-7
 unfolding multicastOf must
-returns-7 c = simp (c .answer7 .ensures, ← c .before .before .before .before .before .before .before .before .before .before .before .before .before .before .before .before .member .ensures, not-no (c .before .before .before .before .before .before .before .before .before .before .before .before .before .before .before .before .member .result) (c .before .before .before .before .before .before .before .before .before .before .before .before .before .before .before .if1 .left), ← c .before .before .before .before .before .before .before .before .before .before .before .before .before .before .is-faulty .ensures, c .before .before .before .before .before .before .before .before .before .before .before .before .before .if2 .left, lt-ltb _ _ (c .before .before .before .before .before .before .before .before .before .before .before .if3 .left), ← c .before .before .before .before .before .before .before .before .before .before .has .ensures, not-no (c .before .before .before .before .before .before .before .before .before .before .has .result) (c .before .before .before .before .before .before .before .before .before .if4 .left), lt-ltb _ _ (c .before .before .before .before .before .before .before .if5 .left), ← c .before .before .before .before .before .before .room .ensures, ← c .before .before .before .before .before .recipients .ensures, le-leb _ _ (c .before .before .before .before .if6 .left), ← c .before .before .before .free .ensures, c .before .enum-told2 .given .1)
-
-cast-requires : tie.Need-cast-requires
-cast-requires c κs = search needs
-
-answer-requires-8 : tie.Need-answer-requires-8
-answer-requires-8 c κs = search needs
-
-returns-8 : tie.Need-returns-8
-unfolding multicastOf must
-returns-8 c = simp (c .answer8 .ensures, c .before .cast .ensures, ← c .before .before .before .before .before .before .before .before .before .before .before .before .before .before .before .before .before .member .ensures, not-no (c .before .before .before .before .before .before .before .before .before .before .before .before .before .before .before .before .before .member .result) (c .before .before .before .before .before .before .before .before .before .before .before .before .before .before .before .before .if1 .left), ← c .before .before .before .before .before .before .before .before .before .before .before .before .before .before .before .is-faulty .ensures, c .before .before .before .before .before .before .before .before .before .before .before .before .before .before .if2 .left, lt-ltb _ _ (c .before .before .before .before .before .before .before .before .before .before .before .before .if3 .left), ← c .before .before .before .before .before .before .before .before .before .before .before .has .ensures, not-no (c .before .before .before .before .before .before .before .before .before .before .before .has .result) (c .before .before .before .before .before .before .before .before .before .before .if4 .left), lt-ltb _ _ (c .before .before .before .before .before .before .before .before .if5 .left), ← c .before .before .before .before .before .before .before .room .ensures, ← c .before .before .before .before .before .before .recipients .ensures, le-leb _ _ (c .before .before .before .before .before .if6 .left), ← c .before .before .before .before .free .ensures, c .before .before .enum-told .given .1)
+returns-7 c = simp (c .answer7 .ensures, c .before .cast .ensures, ← c .before .before .before .before .before .before .before .before .before .before .before .before .before .member .ensures, not-no (c .before .before .before .before .before .before .before .before .before .before .before .before .before .member .result) (c .before .before .before .before .before .before .before .before .before .before .before .before .if1 .left), ← c .before .before .before .before .before .before .before .before .before .before .before .is-faulty .ensures, c .before .before .before .before .before .before .before .before .before .before .if2 .left, lt-ltb _ _ (c .before .before .before .before .before .before .before .before .if3 .left), ← c .before .before .before .before .before .before .before .has .ensures, not-no (c .before .before .before .before .before .before .before .has .result) (c .before .before .before .before .before .before .if4 .left), lt-ltb _ _ (c .before .before .before .before .if5 .left), ← c .before .before .before .has-room .ensures, not-no (c .before .before .before .has-room .result) (c .before .before .if6 .left))
 
 pub multicast-spec : {M : Type 1} → statement M
 multicast-spec =
@@ -113,15 +92,9 @@ multicast-spec =
     cast-if5
     answer-requires-5
     returns-5
-    room-requires
-    recipients-requires
+    has-room-requires
     answer-requires-6
     returns-6
-    free-requires
-    enum-told
-    enum-told-2
-    answer-requires-7
-    returns-7
     cast-requires
-    answer-requires-8
-    returns-8)
+    answer-requires-7
+    returns-7)

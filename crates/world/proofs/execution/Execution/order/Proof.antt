@@ -17,9 +17,9 @@ threshold-requires c κs = search needs
 returns-2 : tie.Need-returns-2
 unfolding ordered
 returns-2 c =
-    let a = c .before .before .before .before .before .args in
+    let a = c .before .before .before .before .args in
     let n : ones (a .self .mask) ≡ threshold (a .roster) → ⊥ = λ e. c .if2 .taken (e ∙ sym (c .before .threshold .ensures)) in
-    rw (eq-eqb _ _ (c .before .before .before .if1 .left), ne-eqb _ _ n)
+    rw (eq-eqb _ _ (c .before .before .if1 .left), ne-eqb _ _ n)
 
 wrapping-add-u32-requires : tie.Need-wrapping-add-u32-requires
 wrapping-add-u32-requires c κs = search needs
@@ -28,7 +28,7 @@ returns-3 : tie.Need-returns-3
 unfolding ordered
 returns-3 c =
     let e = c .before .before .if2 .left ∙ c .before .before .before .threshold .ensures in
-    rw (eq-eqb _ _ (c .before .before .before .before .before .if1 .left), eq-eqb _ _ e, c .before .wrapping-add-u32 .ensures)
+    rw (eq-eqb _ _ (c .before .before .before .before .if1 .left), eq-eqb _ _ e, c .before .wrapping-add-u32 .ensures)
 
 pub order-spec : {M : Type 1} → statement M
 order-spec =

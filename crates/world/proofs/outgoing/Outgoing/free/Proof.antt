@@ -9,10 +9,10 @@ use Rattle.world.proofs.outgoing.Outgoing.free.Statement.{statement}
 use Rattle.world.proofs.outgoing.Outgoing.free.Tie as tie
 
 abbrev Inv-loop : tie.InvT-loop
-Inv-loop self k₀ k = Passed (λ (i : ℕ). isFree self i) 64 k
+Inv-loop self place₀ place = Passed (λ (i : ℕ). isFree self i) 64 place
 
 abbrev μ-loop : tie.MeasureT-loop
-μ-loop self k₀ k = 64 - k
+μ-loop self place₀ place = 64 - place
 
 loop-holds : tie.Need-loop-holds Inv-loop μ-loop
 loop-holds c = passed-none _ _
@@ -23,8 +23,8 @@ mul-if2 c = search needs
 element-copy-out-if2 : tie.Need-element-copy-out-if2 Inv-loop μ-loop
 element-copy-out-if2 c = search needs
 
-add-k : tie.Need-add-k Inv-loop μ-loop
-add-k c = omega arith
+add-place : tie.Need-add-place Inv-loop μ-loop
+add-place c = omega arith
 
 loop-less : tie.Need-loop-less Inv-loop μ-loop
 loop-less c = omega arith
@@ -47,7 +47,7 @@ free-spec =
     loop-holds
     mul-if2
     element-copy-out-if2
-    add-k
+    add-place
     loop-less
     loop-again
     returns

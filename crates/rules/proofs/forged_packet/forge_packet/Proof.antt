@@ -1,0 +1,95 @@
+use mathlib.Core.Path.{_≡_, sym, ap, _∙_}
+use Rattle.search.proofs.Laws.{not-yes, not-no}
+use Rattle.rules.specs.Tests.{must}
+use mathlib.Core.Bool.{_&&_}
+use borrow.Author.Tests.{lt-ltb, le-ltb}
+use Rattle.rules.specs.Rules.{forgePacketOf}
+use borrow.Author.Needs.{needs}
+use Rattle.rules.proofs.forged_packet.forge_packet.Statement.{statement}
+use Rattle.rules.proofs.forged_packet.forge_packet.Tie as tie
+
+member-requires : tie.Need-member-requires
+member-requires c κs = search needs
+
+member-requires-2 : tie.Need-member-requires-2
+member-requires-2 c κs = search needs
+
+member-requires-3 : tie.Need-member-requires-3
+member-requires-3 c κs = search needs
+
+answer-requires : tie.Need-answer-requires
+answer-requires c κs = search needs
+
+returns : tie.Need-returns
+unfolding forgePacketOf must
+returns c = simp (c .answer .ensures, ← c .before .before .before .before .member .ensures, ← c .before .before .before .member2 .ensures, ← c .before .before .member3 .ensures, not-yes (c .before .before .before .before .member .result && c .before .before .before .member2 .result && c .before .before .member3 .result) (c .before .if1 .taken))
+
+is-faulty-requires : tie.Need-is-faulty-requires
+is-faulty-requires c κs = search needs
+
+answer-requires-2 : tie.Need-answer-requires-2
+answer-requires-2 c κs = search needs
+
+returns-2 : tie.Need-returns-2
+unfolding forgePacketOf must
+returns-2 c = simp (c .answer2 .ensures, ← c .before .before .before .before .before .before .member .ensures, ← c .before .before .before .before .before .member2 .ensures, ← c .before .before .before .before .member3 .ensures, not-no (c .before .before .before .before .before .before .member .result && c .before .before .before .before .before .member2 .result && c .before .before .before .before .member3 .result) (c .before .before .before .if1 .left), ← c .before .before .is-faulty .ensures, not-yes (c .before .before .is-faulty .result) (c .before .if2 .taken))
+
+answer-requires-3 : tie.Need-answer-requires-3
+answer-requires-3 c κs = search needs
+
+returns-3 : tie.Need-returns-3
+unfolding forgePacketOf must
+returns-3 c = simp (c .answer3 .ensures, ← c .before .before .before .before .before .before .before .before .member .ensures, ← c .before .before .before .before .before .before .before .member2 .ensures, ← c .before .before .before .before .before .before .member3 .ensures, not-no (c .before .before .before .before .before .before .before .before .member .result && c .before .before .before .before .before .before .before .member2 .result && c .before .before .before .before .before .before .member3 .result) (c .before .before .before .before .before .if1 .left), ← c .before .before .before .before .is-faulty .ensures, not-no (c .before .before .before .before .is-faulty .result) (c .before .before .before .if2 .left), le-ltb _ _ (c .before .if3 .taken))
+
+free-requires : tie.Need-free-requires
+free-requires c κs = search needs
+
+enum-told : tie.Need-enum-told
+enum-told c = search needs
+
+enum-told-2 : tie.Need-enum-told-2
+enum-told-2 c = search needs
+
+answer-requires-4 : tie.Need-answer-requires-4
+answer-requires-4 c κs = search needs
+
+returns-4 : tie.Need-returns-4
+unfolding forgePacketOf must
+returns-4 c = simp (c .answer4 .ensures, ← c .before .before .before .before .before .before .before .before .before .before .before .member .ensures, ← c .before .before .before .before .before .before .before .before .before .before .member2 .ensures, ← c .before .before .before .before .before .before .before .before .before .member3 .ensures, not-no (c .before .before .before .before .before .before .before .before .before .before .before .member .result && c .before .before .before .before .before .before .before .before .before .before .member2 .result && c .before .before .before .before .before .before .before .before .before .member3 .result) (c .before .before .before .before .before .before .before .before .if1 .left), ← c .before .before .before .before .before .before .before .is-faulty .ensures, not-no (c .before .before .before .before .before .before .before .is-faulty .result) (c .before .before .before .before .before .before .if2 .left), lt-ltb _ _ (c .before .before .before .before .if3 .left), ← c .before .before .before .free .ensures, c .before .enum-told2 .given .1)
+
+new-requires : tie.Need-new-requires
+new-requires c κs = search needs
+
+post-requires : tie.Need-post-requires
+post-requires c κs = search needs
+
+answer-requires-5 : tie.Need-answer-requires-5
+answer-requires-5 c κs = search needs
+
+returns-5 : tie.Need-returns-5
+unfolding forgePacketOf must
+returns-5 c = simp (c .answer5 .ensures, c .before .post .ensures, c .before .before .new .ensures, ← c .before .before .before .before .before .before .before .before .before .before .before .before .before .member .ensures, ← c .before .before .before .before .before .before .before .before .before .before .before .before .member2 .ensures, ← c .before .before .before .before .before .before .before .before .before .before .before .member3 .ensures, not-no (c .before .before .before .before .before .before .before .before .before .before .before .before .before .member .result && c .before .before .before .before .before .before .before .before .before .before .before .before .member2 .result && c .before .before .before .before .before .before .before .before .before .before .before .member3 .result) (c .before .before .before .before .before .before .before .before .before .before .if1 .left), ← c .before .before .before .before .before .before .before .before .before .is-faulty .ensures, not-no (c .before .before .before .before .before .before .before .before .before .is-faulty .result) (c .before .before .before .before .before .before .before .before .if2 .left), lt-ltb _ _ (c .before .before .before .before .before .before .if3 .left), ← c .before .before .before .before .before .free .ensures, c .before .before .before .enum-told .given .1)
+
+pub forge-packet-spec : {M : Type 1} → statement M
+forge-packet-spec =
+    tie.close
+    (tie.spec
+    member-requires
+    member-requires-2
+    member-requires-3
+    answer-requires
+    returns
+    is-faulty-requires
+    answer-requires-2
+    returns-2
+    answer-requires-3
+    returns-3
+    free-requires
+    enum-told
+    enum-told-2
+    answer-requires-4
+    returns-4
+    new-requires
+    post-requires
+    answer-requires-5
+    returns-5)

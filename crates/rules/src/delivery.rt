@@ -1,0 +1,37 @@
+// Deliver.
+ghost use mathlib.Core.Path.{_≡_};
+ghost use Rattle.rules.specs.Rules.{deliverOf};
+use crate::answer::Answer;
+use crate::boxes::Boxes;
+use crate::boxes::Stepped;
+use search::Found;
+use world::Entry;
+use world::Item;
+use world::Roster;
+
+// A correct server delivers the entry that has its next number.
+pub fn deliver(roster: Roster, server: u8, b: Boxes) -> Stepped
+    ensures { λ r. ⌜ r ≡ deliverOf roster server b ⌝ }
+{
+    if !roster.member(server) {
+        return b.answer(Answer::BadServer);
+    }
+    if roster.is_faulty(server) {
+        return b.answer(Answer::WrongSide);
+    }
+    let Found::At(k) = b.hold.ready(b.delivered.next()) else {
+        return b.answer(Answer::Wait);
+    };
+    let held = b.hold;
+    let e = held.places[k];
+    let h = held.put(k, Entry::free());
+    let d = b.delivered.append(Item {
+        id: e.id,
+        sender: e.sender,
+        slot: e.slot,
+    });
+    let mut v = b;
+    v.hold = h;
+    v.delivered = d;
+    v.answer(Answer::Done)
+}
