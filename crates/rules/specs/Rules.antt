@@ -119,10 +119,9 @@ arriveOf r origin place b =
     let rest = withOutgoing b (cleared (b .outgoing) place) in
     must (member r origin) (answered BadServer b)
     (must (p .there) (answered NoSuch b)
-    (must (not (faulty r (p .to))) (answered Dropped rest)
-    (must (not (holding (b .hold) (p .sender) (p .id) (p .slot))) (answered Dropped rest)
+    (must (not (faulty r (p .to) || holding (b .hold) (p .sender) (p .id) (p .slot))) (answered Dropped rest)
     (must (isFound (vacancy (b .hold))) (answered NoRoom b)
-    (answered Done (withHold rest (kept (b .hold) (entryOf 1 (p .sender) (p .id) (p .slot) 0))))))))
+    (answered Done (withHold rest (kept (b .hold) (entryOf 1 (p .sender) (p .id) (p .slot) 0)))))))
 
 -- an entry at a later stage; and freed, which drops the step
 abbrev pub raised : ℕ → ℕ → ℕ → Boxes → Boxes

@@ -30,10 +30,7 @@ pub fn arrive(roster: Roster, origin: u8, place: u8, b: Boxes) -> Stepped
     if !p.there {
         return b.answer(Answer::NoSuch);
     }
-    if roster.is_faulty(p.to) {
-        return rest.answer(Answer::Dropped);
-    }
-    if b.hold.holds(p.sender, p.id, p.slot) {
+    if roster.is_faulty(p.to) | b.hold.holds(p.sender, p.id, p.slot) {
         return rest.answer(Answer::Dropped);
     }
     if !b.hold.has_room() {

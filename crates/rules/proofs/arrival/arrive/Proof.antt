@@ -32,32 +32,25 @@ returns-2 c = simp (c .answer2 .ensures, ← c .before .before .before .before .
 is-faulty-requires : tie.Need-is-faulty-requires
 is-faulty-requires c κs = search needs
 
+holds-requires : tie.Need-holds-requires
+holds-requires c κs = search needs
+
 answer-requires-3 : tie.Need-answer-requires-3
 answer-requires-3 c κs = search needs
 
 returns-3 : tie.Need-returns-3
 unfolding arriveOf must
-returns-3 c = simp (c .answer3 .ensures, c .before .before .before .before .before .taken .ensures, ← c .before .before .before .before .before .before .before .before .member .ensures, not-no (c .before .before .before .before .before .before .before .before .member .result) (c .before .before .before .before .before .before .before .if1 .left), ← c .before .before .before .before .before .before .at .ensures, not-no (c .before .before .before .before .before .before .at .result .there) (c .before .before .before .if2 .left), ← c .before .before .is-faulty .ensures, c .before .if3 .taken)
+returns-3 c = simp (c .answer3 .ensures, c .before .before .before .before .before .before .taken .ensures, ← c .before .before .before .before .before .before .before .before .before .member .ensures, not-no (c .before .before .before .before .before .before .before .before .before .member .result) (c .before .before .before .before .before .before .before .before .if1 .left), ← c .before .before .before .before .before .before .before .at .ensures, not-no (c .before .before .before .before .before .before .before .at .result .there) (c .before .before .before .before .if2 .left), ← c .before .before .before .is-faulty .ensures, ← c .before .before .holds .ensures, c .before .if3 .taken)
 
-holds-requires : tie.Need-holds-requires
-holds-requires c κs = search needs
+has-room-requires : tie.Need-has-room-requires
+has-room-requires c κs = search needs
 
 answer-requires-4 : tie.Need-answer-requires-4
 answer-requires-4 c κs = search needs
 
 returns-4 : tie.Need-returns-4
 unfolding arriveOf must
-returns-4 c = simp (c .answer4 .ensures, c .before .before .before .before .before .before .before .taken .ensures, ← c .before .before .before .before .before .before .before .before .before .before .member .ensures, not-no (c .before .before .before .before .before .before .before .before .before .before .member .result) (c .before .before .before .before .before .before .before .before .before .if1 .left), ← c .before .before .before .before .before .before .before .before .at .ensures, not-no (c .before .before .before .before .before .before .before .before .at .result .there) (c .before .before .before .before .before .if2 .left), ← c .before .before .before .before .is-faulty .ensures, c .before .before .before .if3 .left, ← c .before .before .holds .ensures, c .before .if4 .taken)
-
-has-room-requires : tie.Need-has-room-requires
-has-room-requires c κs = search needs
-
-answer-requires-5 : tie.Need-answer-requires-5
-answer-requires-5 c κs = search needs
-
-returns-5 : tie.Need-returns-5
-unfolding arriveOf must
-returns-5 c = simp (c .answer5 .ensures, ← c .before .before .before .before .before .before .before .before .before .before .before .before .member .ensures, not-no (c .before .before .before .before .before .before .before .before .before .before .before .before .member .result) (c .before .before .before .before .before .before .before .before .before .before .before .if1 .left), ← c .before .before .before .before .before .before .before .before .before .before .at .ensures, not-no (c .before .before .before .before .before .before .before .before .before .before .at .result .there) (c .before .before .before .before .before .before .before .if2 .left), ← c .before .before .before .before .before .before .is-faulty .ensures, c .before .before .before .before .before .if3 .left, ← c .before .before .before .before .holds .ensures, c .before .before .before .if4 .left, ← c .before .before .has-room .ensures, not-yes (c .before .before .has-room .result) (c .before .if5 .taken))
+returns-4 c = simp (c .answer4 .ensures, ← c .before .before .before .before .before .before .before .before .before .before .before .member .ensures, not-no (c .before .before .before .before .before .before .before .before .before .before .before .member .result) (c .before .before .before .before .before .before .before .before .before .before .if1 .left), ← c .before .before .before .before .before .before .before .before .before .at .ensures, not-no (c .before .before .before .before .before .before .before .before .before .at .result .there) (c .before .before .before .before .before .before .if2 .left), ← c .before .before .before .before .before .is-faulty .ensures, ← c .before .before .before .before .holds .ensures, c .before .before .before .if3 .left, ← c .before .before .has-room .ensures, not-yes (c .before .before .has-room .result) (c .before .if4 .taken))
 
 new-requires : tie.Need-new-requires
 new-requires c κs = search needs
@@ -65,12 +58,12 @@ new-requires c κs = search needs
 keep-requires : tie.Need-keep-requires
 keep-requires c κs = search needs
 
-answer-requires-6 : tie.Need-answer-requires-6
-answer-requires-6 c κs = search needs
+answer-requires-5 : tie.Need-answer-requires-5
+answer-requires-5 c κs = search needs
 
-returns-6 : tie.Need-returns-6
+returns-5 : tie.Need-returns-5
 unfolding arriveOf must
-returns-6 c = simp (c .answer6 .ensures, c .before .before .before .before .before .before .before .before .before .before .before .taken .ensures, c .before .keep .ensures, c .before .before .new .ensures, ← c .before .before .before .before .before .before .before .before .before .before .before .before .before .before .member .ensures, not-no (c .before .before .before .before .before .before .before .before .before .before .before .before .before .before .member .result) (c .before .before .before .before .before .before .before .before .before .before .before .before .before .if1 .left), ← c .before .before .before .before .before .before .before .before .before .before .before .before .at .ensures, not-no (c .before .before .before .before .before .before .before .before .before .before .before .before .at .result .there) (c .before .before .before .before .before .before .before .before .before .if2 .left), ← c .before .before .before .before .before .before .before .before .is-faulty .ensures, c .before .before .before .before .before .before .before .if3 .left, ← c .before .before .before .before .before .before .holds .ensures, c .before .before .before .before .before .if4 .left, ← c .before .before .before .before .has-room .ensures, not-no (c .before .before .before .before .has-room .result) (c .before .before .before .if5 .left))
+returns-5 c = simp (c .answer5 .ensures, c .before .before .before .before .before .before .before .before .before .before .taken .ensures, c .before .keep .ensures, c .before .before .new .ensures, ← c .before .before .before .before .before .before .before .before .before .before .before .before .before .member .ensures, not-no (c .before .before .before .before .before .before .before .before .before .before .before .before .before .member .result) (c .before .before .before .before .before .before .before .before .before .before .before .before .if1 .left), ← c .before .before .before .before .before .before .before .before .before .before .before .at .ensures, not-no (c .before .before .before .before .before .before .before .before .before .before .before .at .result .there) (c .before .before .before .before .before .before .before .before .if2 .left), ← c .before .before .before .before .before .before .before .is-faulty .ensures, ← c .before .before .before .before .before .before .holds .ensures, c .before .before .before .before .before .if3 .left, ← c .before .before .before .before .has-room .ensures, not-no (c .before .before .before .before .has-room .result) (c .before .before .before .if4 .left))
 
 pub arrive-spec : {M : Type 1} → statement M
 arrive-spec =
@@ -84,15 +77,13 @@ arrive-spec =
     answer-requires-2
     returns-2
     is-faulty-requires
+    holds-requires
     answer-requires-3
     returns-3
-    holds-requires
+    has-room-requires
     answer-requires-4
     returns-4
-    has-room-requires
-    answer-requires-5
-    returns-5
     new-requires
     keep-requires
-    answer-requires-6
-    returns-6)
+    answer-requires-5
+    returns-5)
