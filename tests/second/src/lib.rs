@@ -1,0 +1,30 @@
+//! The rehearsal a second time, written from document 01 alone.
+//!
+//! The rules: `sha256`, `world`, `steps`, `sound`, `quiet`, `schedule`, `listing`.
+//! The claims about a whole run (demand 3): `claims`.
+//! The comparison with another program: `random`, `draft`, `damage` and `generate` make schedules, `program` runs
+//! the other program, `compare` says where the two differ, `shrink` (with `intent`) makes a differing schedule small.
+//! For people: `hex` and `readable`.
+
+pub mod claims;
+pub mod compare;
+pub mod damage;
+pub mod draft;
+pub mod generate;
+pub mod hex;
+pub mod intent;
+pub mod listing;
+pub mod options;
+pub mod program;
+pub mod quiet;
+pub mod random;
+pub mod readable;
+pub mod schedule;
+pub mod sha256;
+pub mod shrink;
+pub mod sound;
+pub mod steps;
+pub mod world;
+
+#[cfg(test)]
+mod edges;
