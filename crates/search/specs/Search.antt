@@ -1,5 +1,5 @@
 -- Searches and counts over places 0, 1, 2, .. by a test: what every loop over places means.
-use mathlib.Core.Bool.{Bool, true, false, cond}
+use mathlib.Core.Bool.{Bool, true, false, cond, not}
 use Prim.Native.Nat.{ℕ, zero, suc, _+_}
 use Rattle.search.specs.declared.Found.{Found}
 use Rattle.search.specs.declared.Found.the-variants.{At, Nothing}
@@ -20,6 +20,10 @@ isFound Nothing = false
 
 abbrev pub any : (ℕ → Bool) → ℕ → Bool
 any t n = isFound (first t n)
+
+-- whether the test holds at each of them: there is none at which it does not
+abbrev pub every : (ℕ → Bool) → ℕ → Bool
+every t n = not (any (λ (k : ℕ). not (t k)) n)
 
 -- at how many of the n places from 0 on the test holds
 unfoldable pub count : (ℕ → Bool) → ℕ → ℕ

@@ -81,6 +81,8 @@ use Rattle.world.proofs.roster.Roster.faults.Kinds as roster-faults-kin
 use Rattle.world.proofs.roster.Roster.faults.Reads as roster-faults-reads
 use Rattle.world.proofs.roster.Roster.is_faulty.Kinds as roster-is-faulty-kinds
 use Rattle.world.proofs.roster.Roster.is_faulty.Reads as roster-is-faulty-reads
+use Rattle.world.proofs.roster.Roster.is_good.Kinds as roster-is-good-kinds
+use Rattle.world.proofs.roster.Roster.is_good.Reads as roster-is-good-reads
 use Rattle.world.proofs.roster.Roster.member.Kinds as roster-member-kinds
 use Rattle.world.proofs.roster.Roster.member.Reads as roster-member-reads
 use Rattle.world.proofs.roster.Roster.strays.Kinds as roster-strays-kinds
@@ -211,6 +213,9 @@ roster-faults-settled κs a x y e f p q = p ∙ sym q
 
 pub roster-is-faulty-settled : Settled 0 roster-is-faulty-kinds.ps roster-is-faulty-kinds.r roster-is-faulty-reads.Post
 roster-is-faulty-settled κs a x y e f p q = p ∙ sym q
+
+pub roster-is-good-settled : Settled 0 roster-is-good-kinds.ps roster-is-good-kinds.r roster-is-good-reads.Post
+roster-is-good-settled κs a x y e f p q = p ∙ sym q
 
 pub roster-member-settled : Settled 0 roster-member-kinds.ps roster-member-kinds.r roster-member-reads.Post
 roster-member-settled κs a x y e f p q = p ∙ sym q

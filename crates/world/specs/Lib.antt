@@ -7,3 +7,4 @@ pub mod Outgoing
 pub mod Hold
 pub mod Delivered
 pub mod Fresh
+pub mod Boxes

@@ -1,7 +1,8 @@
 -- Document 01, "Sizes": servers, f and T.
 use Prim.Native.Nat.{ℕ, _+_, _-_, _/_}
 use mathlib.Core.Bool.{Bool, not, _&&_}
-use lib.Dec.{ltb}
+use lib.Count.{ones}
+use lib.Dec.{ltb, leb}
 use Rattle.world.specs.declared.roster.Roster.{Roster}
 use Rattle.search.specs.Search.{any}
 use Rattle.world.specs.Sizes.{servers}
@@ -27,3 +28,7 @@ faults r = (r .n - 1) / 2
 
 abbrev pub threshold : Roster → ℕ
 threshold r = faults r + 1
+
+-- "n outside 1..8, mask bit at n or above, more than f mask bits" makes no start
+abbrev pub goodRoster : Roster → Bool
+goodRoster r = leb 1 (r .n) && leb (r .n) servers && not (strays r (r .faulty)) && leb (ones (r .faulty)) (faults r)

@@ -1,6 +1,6 @@
 // Who takes part, and who of them is faulty.
 ghost use mathlib.Core.Path.{_≡_};
-ghost use Rattle.world.specs.Roster.{member, faulty, strays, faults, threshold};
+ghost use Rattle.world.specs.Roster.{member, faulty, strays, faults, threshold, goodRoster};
 use crate::mask::has;
 
 pub struct Roster {
@@ -56,5 +56,16 @@ impl Roster {
         ensures { λ r. ⌜ r ≡ threshold self ⌝ }
     {
         self.faults() as u32 + 1
+    }
+
+    // Whether a world may start so: 1 to 8 servers, no stray bit, and at most f faulty ones.
+    pub fn is_good(self) -> bool
+        ensures { λ r. ⌜ r ≡ goodRoster self ⌝ }
+    {
+        let faulty = self.faulty;
+        (1 <= self.n)
+            & (self.n <= Roster::MOST)
+            & !self.strays(faulty)
+            & (u8::count_ones(faulty) <= self.faults() as u32)
     }
 }

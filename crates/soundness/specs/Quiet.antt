@@ -1,0 +1,41 @@
+-- Document 01, "Quiet": "no outgoing place holds a packet for a correct server, and no correct server has (even where its step would answer
+-- 9) a stage-one entry whose execution exists, a stage-two entry whose execution is numbered, or a stage-three entry with its next number."
+use Prim.Native.Nat.{ℕ}
+use mathlib.Core.Bool.{Bool, true, false, not, _&&_, _||_}
+use lib.Dec.{eqb}
+use Rattle.search.specs.declared.Found.{Found}
+use Rattle.search.specs.declared.Found.the-variants.{At, Nothing}
+use Rattle.search.specs.Search.{isFound, every}
+use Rattle.world.specs.declared.World.{World}
+use Rattle.world.specs.declared.execution.Executions.{Executions}
+use Rattle.world.specs.declared.outgoing.Outgoing.{Outgoing}
+use Rattle.world.specs.declared.hold.Entry.{Entry}
+use Rattle.world.specs.declared.roster.Roster.{Roster}
+use Rattle.world.specs.Sizes.{servers, outgoingPlaces, holdPlaces}
+use Rattle.world.specs.Roster.{correct}
+use Rattle.world.specs.Executions.{executionAt, executionOf}
+use Rattle.world.specs.Outgoing.{packetAt}
+use Rattle.world.specs.Hold.{entryAt}
+use Rattle.world.specs.Delivered.{nextOf}
+use Rattle.world.specs.Boxes.{executionsOf, outgoingOf, holdOf, deliveredOf}
+
+-- no packet for a correct server
+unfoldable pub outgoingQuiet : Roster → Outgoing → Bool
+outgoingQuiet r o = every (λ (k : ℕ). not (packetAt o k .there && correct r (packetAt o k .to))) outgoingPlaces
+
+-- whether an execution that was looked for is numbered
+abbrev pub isNumbered : Executions → Found → Bool
+isNumbered t (At k) = not (eqb (executionAt t k .number) 0)
+isNumbered t Nothing = false
+
+-- an entry with which its server could go on, whose next number is given
+unfoldable pub stirs : Executions → ℕ → Entry → Bool
+stirs t next e =
+    (eqb (e .stage) 1 && isFound (executionOf t (e .id))) || (eqb (e .stage) 2 && isNumbered t (executionOf t (e .id)))
+    || (eqb (e .stage) 3 && eqb (e .number) next)
+
+unfoldable pub holdQuiet : World → ℕ → Bool
+holdQuiet w s = every (λ (k : ℕ). not (stirs (executionsOf w (entryAt (holdOf w s) k .sender)) (nextOf (deliveredOf w s)) (entryAt (holdOf w s) k))) holdPlaces
+
+unfoldable pub quiet : World → Bool
+quiet w = every (λ (s : ℕ). outgoingQuiet (w .roster) (outgoingOf w s) && (not (correct (w .roster) s) || holdQuiet w s)) servers
