@@ -36,7 +36,7 @@ use Rattle.rules.specs.declared.answer.Answer.the-variants.{Done, Droppe
 use Rattle.rules.specs.declared.boxes.Boxes.{Boxes}
 use Rattle.rules.specs.declared.boxes.Stepped.{Stepped}
 use Rattle.rules.specs.declared.storing.Requested.{Requested}
-use Rattle.rules.specs.Tests.{must}
+use Rattle.search.specs.Tests.{must}
 
 -- an answer beside the boxes. "Only 0 DONE and 1 DROPPED change the world": every other answer below stands beside the boxes as they were.
 abbrev pub answered : Answer → Boxes → Stepped

@@ -1,6 +1,6 @@
 use mathlib.Core.Path.{_≡_, sym, ap, _∙_}
 use Rattle.search.proofs.Laws.{not-yes, not-no}
-use Rattle.rules.specs.Tests.{must}
+use Rattle.search.specs.Tests.{must}
 use Rattle.rules.specs.Rules.{forgeReceiveTo}
 use borrow.Author.Needs.{needs}
 use Rattle.rules.proofs.forged_receive.receive_to.Statement.{statement}
