@@ -1,1 +1,2 @@
 pub mod Lenses
+pub mod Going

@@ -1,12 +1,13 @@
 -- How the code goes about a step: by the act that its kind names, the first bytes of its body, and what stands where they point. Each is the
 -- step of `Steps` again (`proofs/Lenses.antt`).
-use Prim.Native.Nat.{ℕ, _+_}
+use Prim.Native.Nat.{ℕ, _+_, _<_}
 use mathlib.Core.List.{List}
 use Rattle.digest.specs.Digest.{digestBytes}
 use Rattle.world.specs.declared.World.{World}
 use Rattle.world.specs.declared.roster.Roster.{Roster}
 use Rattle.world.specs.declared.outgoing.Packet.{Packet}
 use Rattle.world.specs.declared.hold.Entry.{Entry}
+use Rattle.world.specs.Sizes.{servers, requestsMost}
 use Rattle.world.specs.Outgoing.{packetAt}
 use Rattle.world.specs.Hold.{entryAt}
 use Rattle.world.specs.Boxes.{outgoingOf, holdOf}
@@ -28,6 +29,13 @@ touchBy Deliver x y p e = touch x x x 0
 touchBy ForgePacket x y p e = touch x x x 0
 touchBy ForgeSend x y p e = touch x x x 0
 touchBy ForgeReceive x y p e = touch x x y 0
+
+-- every box that is touched is there
+pub record Seated (t : Touch) : Type 0 where
+  pub server : t .server < servers
+  pub holder : t .holder < servers
+  pub sender : t .sender < servers
+  pub slot : t .slot < requestsMost
 
 abbrev pub touchOf : World → Act → List ℕ → ℕ → Touch
 touchOf w a s b =

@@ -1,14 +1,14 @@
 -- What a step does to the whole world: the boxes that it touches are taken out, its rule is applied to them, and they are put back.
 use Prim.Native.Nat.{ℕ}
 use mathlib.Core.List.{List, [], _∷_}
-use lib.ListN.{set}
+use lib.ListN.{getD, set}
 use Rattle.world.specs.declared.World.{World}
 use Rattle.world.specs.declared.request.Requests.{Requests}
 use Rattle.world.specs.Sizes.{requestsMost}
 use Rattle.world.specs.Requests.{requestAt}
 use Rattle.world.specs.Outgoing.{packetAt}
 use Rattle.world.specs.Hold.{entryAt}
-use Rattle.world.specs.Boxes.{within, seat, executionsOf, outgoingOf, holdOf, deliveredOf}
+use Rattle.world.specs.Boxes.{within, seat, outgoingOf, holdOf}
 use Rattle.rules.specs.declared.boxes.Boxes.{Boxes}
 use Rattle.rules.specs.declared.boxes.Stepped.{Stepped}
 use Rattle.rules.specs.declared.storing.Requested.{Requested}
@@ -32,10 +32,10 @@ boxesOf w t = record {
   numbered = w .numbered;
   stored = w .requests .count;
   request = requestAt (w .requests) (t .slot);
-  executions = executionsOf w (t .sender);
-  outgoing = outgoingOf w (t .server);
-  hold = holdOf w (t .holder);
-  delivered = deliveredOf w (t .server);
+  executions = getD (w .executions) (t .sender) (record { table = []; count = 0 });
+  outgoing = getD (w .outgoing) (t .server) (record { places = [] });
+  hold = getD (w .holds) (t .holder) (record { places = [] });
+  delivered = getD (w .delivered) (t .server) (record { items = []; count = 0 });
 }
 
 abbrev pub putBack : World → Touch → Boxes → World

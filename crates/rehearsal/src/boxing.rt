@@ -5,7 +5,7 @@ ghost use lib.ListN.{length};
 ghost use Rattle.world.specs.Sizes.{servers, requestsMost};
 ghost use Rattle.world.specs.Boxes.{seat, within};
 ghost use Rattle.schedule.specs.Fields.{byteAt};
-ghost use Rattle.rehearsal.specs.Acts.{touchBy, actOf};
+ghost use Rattle.rehearsal.specs.Acts.{Seated, touchBy, actOf};
 ghost use Rattle.rules.specs.Rules.{requestOf};
 ghost use Rattle.schedule.specs.Fields.{fourAt, bytesAt};
 ghost use Rattle.world.specs.Sizes.{commandBytes};
@@ -51,6 +51,7 @@ pub(crate) fn slot_of(slot: u8) -> usize
 // Whose boxes a record's step touches: its body starts with x and y, and those name the packet p or the entry e of server x.
 pub(crate) fn touch_by(act: Act, x: u8, y: u8, p: Packet, e: Entry) -> Touch
     ensures { λ r. ⌜ r ≡ touchBy act x y p e ⌝ }
+    ensures { λ r. ⌜ Seated r ⌝ }
 {
     let server = seat_of(x);
     match act {
@@ -127,7 +128,13 @@ pub(crate) fn act(act: Act, s: &[u8], b: usize, roster: Roster, boxes: Boxes) ->
             byte_at(s, b + 5),
             boxes,
         ),
-        Act::ForgeSend => rules::forge_send(roster, x, two_at(s, b + 1), digest_at(s, b + 3), boxes),
+        Act::ForgeSend => rules::forge_send(
+            roster,
+            x,
+            two_at(s, b + 1),
+            digest_at(s, b + 3),
+            boxes,
+        ),
         Act::ForgeReceive => {
             rules::forge_receive(roster, x, y, two_at(s, b + 2), digest_at(s, b + 4), boxes)
         }

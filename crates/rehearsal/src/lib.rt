@@ -1,6 +1,11 @@
 // What callers get: a start, a single step, a whole run.
 mod boxing; // the boxes that a record's step touches
+mod running;
+mod starting;
 mod stepping;
 
 pub use boxing::Touch;
+pub use running::Ran;
+pub use running::run;
+pub use starting::start;
 pub use stepping::Taken;

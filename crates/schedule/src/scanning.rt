@@ -28,7 +28,11 @@ fn end(read: Read, at: usize, k: usize) -> Verdict
 {
     match read {
         Read::Refused(why) => Verdict::Refused(why, at),
-        Read::Record { kind: _, start: _, next: _ } => Verdict::Accepted(k),
+        Read::Record {
+            kind: _,
+            start: _,
+            next: _,
+        } => Verdict::Accepted(k),
         Read::End => Verdict::Accepted(k),
     }
 }
@@ -42,7 +46,12 @@ fn scan(s: &[u8], from: usize) -> Verdict
     let mut k: usize = 0;
     loop {
         let read = read_at(s, at);
-        let Read::Record { kind: _, start: _, next } = read else {
+        let Read::Record {
+            kind: _,
+            start: _,
+            next,
+        } = read
+        else {
             return end(read, at, k);
         };
         at = next;

@@ -51,28 +51,28 @@ seat-of-requires-5 : tie.Need-seat-of-requires-5
 seat-of-requires-5 c κs = search needs
 
 returns : tie.Need-returns
-returns c = rw (c .before .enum-told .given .1, c .before .before .before .seat-of .ensures .0, c .slot-of .ensures .0)
+returns c = (rw (c .before .enum-told .given .1, c .before .before .before .seat-of .ensures .0, c .slot-of .ensures .0), search needs)
 
 returns-2 : tie.Need-returns-2
-returns-2 c = rw (c .before .enum-told2 .given .1, c .before .before .before .seat-of .ensures .0, c .seat-of2 .ensures .0)
+returns-2 c = (rw (c .before .enum-told2 .given .1, c .before .before .before .seat-of .ensures .0, c .seat-of2 .ensures .0), search needs)
 
 returns-3 : tie.Need-returns-3
-returns-3 c = rw (c .before .before .enum-told3 .given .1, c .before .before .before .before .seat-of .ensures .0, c .before .seat-of3 .ensures .0, c .slot-of2 .ensures .0)
+returns-3 c = (rw (c .before .before .enum-told3 .given .1, c .before .before .before .before .seat-of .ensures .0, c .before .seat-of3 .ensures .0, c .slot-of2 .ensures .0), search needs)
 
 returns-4 : tie.Need-returns-4
-returns-4 c = rw (c .before .before .enum-told4 .given .1, c .before .before .before .before .seat-of .ensures .0, c .before .seat-of4 .ensures .0, c .slot-of3 .ensures .0)
+returns-4 c = (rw (c .before .before .enum-told4 .given .1, c .before .before .before .before .seat-of .ensures .0, c .before .seat-of4 .ensures .0, c .slot-of3 .ensures .0), search needs)
 
 returns-5 : tie.Need-returns-5
-returns-5 c = rw (c .enum-told5 .given .1, c .before .before .seat-of .ensures .0)
+returns-5 c = (rw (c .enum-told5 .given .1, c .before .before .seat-of .ensures .0), search needs)
 
 returns-6 : tie.Need-returns-6
-returns-6 c = rw (c .enum-told6 .given .1, c .before .before .seat-of .ensures .0)
+returns-6 c = (rw (c .enum-told6 .given .1, c .before .before .seat-of .ensures .0), search needs)
 
 returns-7 : tie.Need-returns-7
-returns-7 c = rw (c .enum-told7 .given .1, c .before .before .seat-of .ensures .0)
+returns-7 c = (rw (c .enum-told7 .given .1, c .before .before .seat-of .ensures .0), search needs)
 
 returns-8 : tie.Need-returns-8
-returns-8 c = rw (c .before .enum-told8 .given .1, c .before .before .before .seat-of .ensures .0, c .seat-of5 .ensures .0)
+returns-8 c = (rw (c .before .enum-told8 .given .1, c .before .before .before .seat-of .ensures .0, c .seat-of5 .ensures .0), search needs)
 
 pub touch-by-spec : {M : Type 1} → statement M
 touch-by-spec =

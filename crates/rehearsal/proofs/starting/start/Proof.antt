@@ -1,0 +1,31 @@
+use Rattle.search.specs.Tests.{must}
+use Rattle.search.proofs.Laws.{not-yes, not-no}
+use Rattle.rehearsal.specs.Runs.{startOf}
+use borrow.Author.Needs.{needs}
+use Rattle.rehearsal.proofs.starting.start.Statement.{statement}
+use Rattle.rehearsal.proofs.starting.start.Tie as tie
+
+is-good-requires : tie.Need-is-good-requires
+is-good-requires c κs = search needs
+
+number-requires : tie.Need-number-requires
+number-requires c κs = search needs
+
+fresh-requires : tie.Need-fresh-requires
+fresh-requires c κs = search needs
+
+returns : tie.Need-returns
+unfolding startOf must
+returns c = simp (← c .before .before .before .is-good .ensures, not-yes (c .before .before .before .is-good .result) (c .before .before .if1 .taken), c .before .number .ensures, c .fresh .ensures)
+
+fresh-requires-2 : tie.Need-fresh-requires-2
+fresh-requires-2 c κs = search needs
+
+returns-2 : tie.Need-returns-2
+unfolding startOf must
+returns-2 c = simp (← c .before .before .is-good .ensures, not-no (c .before .before .is-good .result) (c .before .if1 .left), c .fresh2 .ensures)
+
+pub start-spec : {M : Type 1} → statement M
+start-spec =
+    tie.close
+    (tie.spec is-good-requires number-requires fresh-requires returns fresh-requires-2 returns-2)

@@ -1,0 +1,24 @@
+// A start.
+ghost use mathlib.Core.Path.{_≡_};
+ghost use Rattle.rehearsal.specs.Runs.{startOf};
+use crate::stepping::Taken;
+use schedule::Refusal;
+use world::Roster;
+use world::World;
+
+// A fresh world; 25 and a world of zeros where no world may start so.
+pub fn start(n: u8, faulty: u8) -> Taken
+    ensures { λ r. ⌜ r ≡ startOf n faulty ⌝ }
+{
+    let roster = Roster { n, faulty };
+    if !roster.is_good() {
+        return Taken {
+            number: Refusal::BadStart.number(),
+            world: World::fresh(0, 0),
+        };
+    }
+    Taken {
+        number: 0,
+        world: World::fresh(n, faulty),
+    }
+}
