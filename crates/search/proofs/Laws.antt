@@ -6,7 +6,7 @@ use native.Mathlib.Omega.{arith}
 use native.Mathlib.Numerals.{add-one}
 use Rattle.search.specs.declared.Found.{Found}
 use Rattle.search.specs.declared.Found.the-variants.{At, Nothing}
-use Rattle.search.specs.Search.{firstFrom, first, count}
+use Rattle.search.specs.Search.{firstFrom, first, isFound, every, count}
 
 first-here : (t : ℕ → Bool) (at n : ℕ) → t at ≡ true → firstFrom t at (suc n) ≡ At at
 unfolding firstFrom
@@ -86,3 +86,32 @@ not-yes false e = refl
 pub not-no : (b : Bool) → not b ≡ false → b ≡ true
 not-no true e = refl
 not-no false e = sym e
+
+-- what a search for a place at which the test fails knows: it holds at each of the k places passed
+pub record Kept (t : ℕ → Bool) (n k : ℕ) : Type 0 where
+  pub passed : Passed (λ (i : ℕ). not (t i)) n k
+
+pub kept-none : (t : ℕ → Bool) (n : ℕ) → Kept t n 0
+kept-none t n = record { passed = passed-none _ n }
+
+pub kept-more : (t : ℕ → Bool) (n k : ℕ) → k < n → t k ≡ true → Kept t n k → Kept t n (k + 1)
+kept-more t n k p e q = record { passed = passed-more _ n k p (ap not e) (q .passed) }
+
+pub kept-not : (t : ℕ → Bool) (n k : ℕ) → k < n → t k ≡ false → Kept t n k → false ≡ every t n
+kept-not t n k p e q = ap (λ (f : Found). not (isFound f)) (passed-here _ n k p (ap not e) (q .passed))
+
+pub kept-all : (t : ℕ → Bool) (n k : ℕ) → k ≡ n → Kept t n k → true ≡ every t n
+kept-all t n k p q = ap (λ (f : Found). not (isFound f)) (passed-all _ n k p (q .passed))
+
+-- the same turns in a loop that is left where the opposite of the test's value holds
+pub kept-tested : (t : ℕ → Bool) (n k : ℕ) (b : Bool) → k < n → b ≡ t k → not b ≡ false → Kept t n k → Kept t n (k + 1)
+kept-tested t n k b p e y q = kept-more t n k p (sym e ∙ not-no b y) q
+
+pub kept-failed : (t : ℕ → Bool) (n k : ℕ) (b : Bool) → k < n → b ≡ t k → not b ≡ true → Kept t n k → false ≡ every t n
+kept-failed t n k b p e y q = kept-not t n k p (sym e ∙ not-yes b y) q
+
+-- two tests that agree at the n places have the same count
+pub count-same : (t u : ℕ → Bool) (n : ℕ) → ((i : ℕ) → i < n → t i ≡ u i) → count t n ≡ count u n
+unfolding count
+count-same t u zero h = refl
+count-same t u (suc n) h = rw (h n (omega arith), count-same t u n (λ i p. h i (omega arith)))

@@ -1,3 +1,4 @@
 pub mod Zeros
+pub mod Names
 pub mod Sound
 pub mod Quiet

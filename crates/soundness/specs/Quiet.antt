@@ -2,6 +2,7 @@
 -- 9) a stage-one entry whose execution exists, a stage-two entry whose execution is numbered, or a stage-three entry with its next number."
 use Prim.Native.Nat.{ℕ}
 use mathlib.Core.Bool.{Bool, true, false, not, _&&_, _||_}
+use mathlib.Core.List.{List}
 use lib.Dec.{eqb}
 use Rattle.search.specs.declared.Found.{Found}
 use Rattle.search.specs.declared.Found.the-variants.{At, Nothing}
@@ -10,14 +11,16 @@ use Rattle.world.specs.declared.World.{World}
 use Rattle.world.specs.declared.execution.Executions.{Executions}
 use Rattle.world.specs.declared.outgoing.Outgoing.{Outgoing}
 use Rattle.world.specs.declared.hold.Entry.{Entry}
+use Rattle.world.specs.declared.hold.Hold.{Hold}
 use Rattle.world.specs.declared.roster.Roster.{Roster}
 use Rattle.world.specs.Sizes.{servers, outgoingPlaces, holdPlaces}
 use Rattle.world.specs.Roster.{correct}
-use Rattle.world.specs.Executions.{executionAt, executionOf}
+use Rattle.world.specs.Executions.{executionAt}
 use Rattle.world.specs.Outgoing.{packetAt}
 use Rattle.world.specs.Hold.{entryAt}
 use Rattle.world.specs.Delivered.{nextOf}
-use Rattle.world.specs.Boxes.{executionsOf, outgoingOf, holdOf, deliveredOf}
+use Rattle.world.specs.Boxes.{outgoingOf, holdOf, deliveredOf}
+use Rattle.soundness.specs.Names.{tableOf, ownExecution}
 
 -- no packet for a correct server
 unfoldable pub outgoingQuiet : Roster → Outgoing → Bool
@@ -31,11 +34,17 @@ isNumbered t Nothing = false
 -- an entry with which its server could go on, whose next number is given
 unfoldable pub stirs : Executions → ℕ → Entry → Bool
 stirs t next e =
-    (eqb (e .stage) 1 && isFound (executionOf t (e .id))) || (eqb (e .stage) 2 && isNumbered t (executionOf t (e .id)))
+    (eqb (e .stage) 1 && isFound (ownExecution t e)) || (eqb (e .stage) 2 && isNumbered t (ownExecution t e))
     || (eqb (e .stage) 3 && eqb (e .number) next)
 
-unfoldable pub holdQuiet : World → ℕ → Bool
-holdQuiet w s = every (λ (k : ℕ). not (stirs (executionsOf w (entryAt (holdOf w s) k .sender)) (nextOf (deliveredOf w s)) (entryAt (holdOf w s) k))) holdPlaces
+unfoldable pub holdQuiet : List Executions → ℕ → Hold → Bool
+holdQuiet ts next h = every (λ (k : ℕ). not (stirs (tableOf ts (entryAt h k .sender)) next (entryAt h k))) holdPlaces
+
+-- the boxes of one server
+unfoldable pub serverQuiet : World → ℕ → Bool
+serverQuiet w s =
+    outgoingQuiet (w .roster) (outgoingOf w s)
+    && (not (correct (w .roster) s) || holdQuiet (w .executions) (nextOf (deliveredOf w s)) (holdOf w s))
 
 unfoldable pub quiet : World → Bool
-quiet w = every (λ (s : ℕ). outgoingQuiet (w .roster) (outgoingOf w s) && (not (correct (w .roster) s) || holdQuiet w s)) servers
+quiet w = every (λ (s : ℕ). serverQuiet w s) servers

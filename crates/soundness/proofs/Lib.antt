@@ -1,0 +1,4 @@
+pub mod Typed
+pub mod Seats
+pub mod Filled
+pub mod Unique

@@ -1,0 +1,39 @@
+-- Where a server's boxes stand, and where the execution that an entry names stands. Assumes nothing.
+use mathlib.Core.Path.{_≡_, refl, sym, ap, _∙_}
+use mathlib.Core.Bool.{Bool, true, false, cond}
+use Prim.Native.Nat.{ℕ, _<_}
+use native.Mathlib.Omega.{arith}
+use lib.Dec.{ltb}
+use borrow.Author.Tests.{lt-ltb, ltb-true}
+use Rattle.search.specs.declared.Found.{Found}
+use Rattle.search.specs.declared.Found.the-variants.{At, Nothing}
+use Rattle.search.proofs.Laws.{found-in}
+use Rattle.world.specs.declared.execution.Executions.{Executions}
+use Rattle.world.specs.declared.hold.Entry.{Entry}
+use Rattle.world.specs.Sizes.{servers, executionsMost}
+use Rattle.world.specs.Boxes.{seat}
+use Rattle.world.specs.Executions.{executionOf}
+use Rattle.soundness.specs.Names.{ownExecution}
+
+seat-by : (s : ℕ) (b : Bool) → (b ≡ true → s < servers) → cond b s 0 < servers
+seat-by s true h = h refl
+seat-by s false h = omega arith
+
+-- a seat is one of the eight
+seat-in : (s : ℕ) → seat s < servers
+seat-in s = seat-by s (ltb s servers) (ltb-true s servers)
+
+pub seated : (s r : ℕ) → r ≡ seat s → r < servers
+seated s r e = rw e (seat-in s)
+
+-- and a server's own
+pub seat-own : (s : ℕ) → s < servers → seat s ≡ s
+seat-own s h = rw (lt-ltb s servers h)
+
+own-by : (t : Executions) (id k : ℕ) (b : Bool) → cond b (executionOf t id) Nothing ≡ At k → k < executionsMost
+own-by t id k true h = found-in _ _ _ _ refl h
+own-by t id k false h = let z : _≡_ {A = ℕ} 0 1 = cc in omega arith
+
+-- the execution that an entry names stands in the table
+pub own-in : (t : Executions) (e : Entry) (k : ℕ) (f : Found) → f ≡ ownExecution t e → f ≡ At k → k < executionsMost
+own-in t e k f p q = own-by t (e .id) k (ltb (e .sender) servers) (sym p ∙ q)

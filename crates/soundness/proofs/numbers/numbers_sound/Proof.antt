@@ -1,0 +1,75 @@
+use Rattle.soundness.specs.Sound.{numberAt}
+use Rattle.soundness.proofs.Filled.{filled-once}
+use borrow.Author.Needs.{needs}
+use Prim.Native.Nat.{ℕ, _-_}
+use native.Mathlib.Omega.{arith}
+use mathlib.Core.Path.{_≡_, sym, ap, _∙_}
+use Prim.Native.Nat.{_+_}
+use borrow.Author.Tests.{eq-eqb, ne-eqb, le-leb, lt-leb}
+use lib.Dec.{eqb}
+use lib.ListN.{getD}
+use Rattle.search.specs.Search.{count}
+use Rattle.search.proofs.Laws.{Kept, kept-none, kept-more, kept-not, kept-all}
+use Rattle.soundness.specs.Sound.{numbersSound}
+use Rattle.soundness.proofs.numbers.numbers_sound.Statement.{statement}
+use Rattle.soundness.proofs.numbers.numbers_sound.Tie as tie
+
+abbrev Inv-loop : tie.InvT-loop
+Inv-loop numbered numbers k₀ k = Kept (λ (j : ℕ). eqb (count (λ (i : ℕ). eqb (getD numbers i 0) (j + 1)) 128) 1) numbered k
+
+abbrev μ-loop : tie.MeasureT-loop
+μ-loop numbered numbers k₀ k = numbered - k
+
+returns : tie.Need-returns Inv-loop μ-loop
+unfolding numbersSound
+returns c = rw (lt-leb _ _ (c .if1 .taken))
+
+numbers-of-requires : tie.Need-numbers-of-requires Inv-loop μ-loop
+numbers-of-requires c κs = search needs
+
+loop-holds : tie.Need-loop-holds Inv-loop μ-loop
+loop-holds c = kept-none _ _
+
+add-times : tie.Need-add-times Inv-loop μ-loop
+add-times c = search needs
+
+times-requires : tie.Need-times-requires Inv-loop μ-loop
+times-requires c κs = search needs
+
+add-k : tie.Need-add-k Inv-loop μ-loop
+add-k c = search needs
+
+loop-less : tie.Need-loop-less Inv-loop μ-loop
+loop-less c = search needs
+
+loop-again : tie.Need-loop-again Inv-loop μ-loop
+loop-again c = kept-more _ _ _ (omega arith) (eq-eqb _ _ (sym (c .before .times .ensures) ∙ c .if3 .left)) (c .before .before .before .loop .inv)
+
+returns-2 : tie.Need-returns-2 Inv-loop μ-loop
+unfolding numbersSound
+returns-2 c =
+    let o = filled-once (λ (i : ℕ). numberAt (c .before .before .before .before .args .tables) i) (c .before .before .numbers-of .result) 128 (c .before .before .before .before .args .numbered) (c .before .before .numbers-of .ensures) in
+    rw (le-leb _ _ (c .before .before .before .if1 .left)) (kept-all _ _ _ (c .if2 .taken) (c .before .loop .inv) ∙ o)
+
+returns-3 : tie.Need-returns-3 Inv-loop μ-loop
+unfolding numbersSound
+returns-3 c =
+    let o = filled-once (λ (i : ℕ). numberAt (c .before .before .before .before .before .before .args .tables) i) (c .before .before .before .before .numbers-of .result) 128 (c .before .before .before .before .before .before .args .numbered) (c .before .before .before .before .numbers-of .ensures) in
+    rw (le-leb _ _ (c .before .before .before .before .before .if1 .left)) (kept-not _ _ _ (omega arith) (ap (λ (n : ℕ). eqb n 1) (sym (c .before .times .ensures)) ∙ ne-eqb _ _ (c .if3 .taken)) (c .before .before .before .loop .inv) ∙ o)
+
+pub numbers-sound-spec : {M : Type 1} → statement M
+numbers-sound-spec =
+    tie.close
+    (tie.spec
+    Inv-loop
+    μ-loop
+    returns
+    numbers-of-requires
+    loop-holds
+    add-times
+    times-requires
+    add-k
+    loop-less
+    loop-again
+    returns-2
+    returns-3)

@@ -1,0 +1,89 @@
+use borrow.Author.Needs.{needs}
+use Prim.Native.Nat.{ℕ, _-_}
+use native.Mathlib.Omega.{arith}
+use Rattle.search.proofs.Laws.{Kept, kept-none, kept-all, kept-tested, kept-failed}
+use Prim.Native.Nat.{_<_}
+use Rattle.soundness.specs.Quiet.{serverQuiet, quiet}
+use Rattle.soundness.proofs.Seats.{seat-own}
+use Rattle.soundness.proofs.quiet.Statement.{statement}
+use Rattle.soundness.proofs.quiet.Tie as tie
+
+abbrev Inv-loop : tie.InvT-loop
+Inv-loop w tables s₀ s = Kept (λ (i : ℕ). serverQuiet w i) 8 s
+
+abbrev μ-loop : tie.MeasureT-loop
+μ-loop w tables s₀ s = 8 - s
+
+loop-holds : tie.Need-loop-holds Inv-loop μ-loop
+loop-holds c = kept-none _ _
+
+cast-i : tie.Need-cast-i Inv-loop μ-loop
+cast-i c = omega arith
+
+mul-o : tie.Need-mul-o Inv-loop μ-loop
+mul-o c = search needs
+
+element-copy-out-o : tie.Need-element-copy-out-o Inv-loop μ-loop
+element-copy-out-o c = search needs
+
+mul-h : tie.Need-mul-h Inv-loop μ-loop
+mul-h c = search needs
+
+element-copy-out-h : tie.Need-element-copy-out-h Inv-loop μ-loop
+element-copy-out-h c = search needs
+
+mul-next : tie.Need-mul-next Inv-loop μ-loop
+mul-next c = search needs
+
+element-copy-out-next : tie.Need-element-copy-out-next Inv-loop μ-loop
+element-copy-out-next c = search needs
+
+next-requires : tie.Need-next-requires Inv-loop μ-loop
+next-requires c κs = search needs
+
+server-quiet-requires : tie.Need-server-quiet-requires Inv-loop μ-loop
+server-quiet-requires c κs = search needs
+
+add-s : tie.Need-add-s Inv-loop μ-loop
+add-s c = omega arith
+
+loop-less : tie.Need-loop-less Inv-loop μ-loop
+loop-less c = omega arith
+
+loop-again : tie.Need-loop-again Inv-loop μ-loop
+unfolding serverQuiet
+loop-again c =
+    let h : c .before .before .before .before .before .before .before .before .loop .s < 8 = omega arith in
+    kept-tested _ _ _ (c .before .server-quiet .result) h (rw (seat-own (c .before .before .before .before .before .before .before .before .loop .s) h, c .before .server-quiet .ensures, c .before .before .before .next .ensures)) (c .if2 .left) (c .before .before .before .before .before .before .before .before .loop .inv)
+
+returns : tie.Need-returns Inv-loop μ-loop
+unfolding quiet
+returns c = kept-all _ _ _ (c .if1 .taken) (c .before .loop .inv)
+
+returns-2 : tie.Need-returns-2 Inv-loop μ-loop
+unfolding quiet serverQuiet
+returns-2 c =
+    let h : c .before .before .before .before .before .before .before .before .loop .s < 8 = omega arith in
+    kept-failed _ _ _ (c .before .server-quiet .result) h (rw (seat-own (c .before .before .before .before .before .before .before .before .loop .s) h, c .before .server-quiet .ensures, c .before .before .before .next .ensures)) (c .if2 .taken) (c .before .before .before .before .before .before .before .before .loop .inv)
+
+pub quiet-spec : {M : Type 1} → statement M
+quiet-spec =
+    tie.close
+    (tie.spec
+    Inv-loop
+    μ-loop
+    loop-holds
+    cast-i
+    mul-o
+    element-copy-out-o
+    mul-h
+    element-copy-out-h
+    mul-next
+    element-copy-out-next
+    next-requires
+    server-quiet-requires
+    add-s
+    loop-less
+    loop-again
+    returns
+    returns-2)

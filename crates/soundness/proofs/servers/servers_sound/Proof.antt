@@ -1,0 +1,108 @@
+use borrow.Author.Needs.{needs}
+use Prim.Native.Nat.{ℕ, _-_}
+use native.Mathlib.Omega.{arith}
+use Rattle.search.proofs.Laws.{Kept, kept-none, kept-all, kept-tested, kept-failed}
+use mathlib.Core.Bool.{_&&_}
+use Prim.Native.Nat.{_<_}
+use Rattle.soundness.specs.Sound.{serverSound, serversSound}
+use Rattle.soundness.proofs.Seats.{seat-own}
+use Rattle.soundness.proofs.servers.servers_sound.Statement.{statement}
+use Rattle.soundness.proofs.servers.servers_sound.Tie as tie
+
+abbrev Inv-loop : tie.InvT-loop
+Inv-loop w roster numbered stored tables s₀ s = Kept (λ (i : ℕ). serverSound w i) 8 s
+
+abbrev μ-loop : tie.MeasureT-loop
+μ-loop w roster numbered stored tables s₀ s = 8 - s
+
+loop-holds : tie.Need-loop-holds Inv-loop μ-loop
+loop-holds c = kept-none _ _
+
+cast-i : tie.Need-cast-i Inv-loop μ-loop
+cast-i c = omega arith
+
+mul-executions-sound : tie.Need-mul-executions-sound Inv-loop μ-loop
+mul-executions-sound c = search needs
+
+array-copy-out-executions-sound : tie.Need-array-copy-out-executions-sound Inv-loop μ-loop
+array-copy-out-executions-sound c = search needs
+
+executions-sound-requires : tie.Need-executions-sound-requires Inv-loop μ-loop
+executions-sound-requires c κs = search needs
+
+mul-outgoing-sound : tie.Need-mul-outgoing-sound Inv-loop μ-loop
+mul-outgoing-sound c = search needs
+
+element-copy-out-outgoing-sound : tie.Need-element-copy-out-outgoing-sound Inv-loop μ-loop
+element-copy-out-outgoing-sound c = search needs
+
+outgoing-sound-requires : tie.Need-outgoing-sound-requires Inv-loop μ-loop
+outgoing-sound-requires c κs = search needs
+
+mul-hold-sound : tie.Need-mul-hold-sound Inv-loop μ-loop
+mul-hold-sound c = search needs
+
+element-copy-out-hold-sound : tie.Need-element-copy-out-hold-sound Inv-loop μ-loop
+element-copy-out-hold-sound c = search needs
+
+hold-sound-requires : tie.Need-hold-sound-requires Inv-loop μ-loop
+hold-sound-requires c κs = search needs
+
+mul-delivered-sound : tie.Need-mul-delivered-sound Inv-loop μ-loop
+mul-delivered-sound c = search needs
+
+element-copy-out-delivered-sound : tie.Need-element-copy-out-delivered-sound Inv-loop μ-loop
+element-copy-out-delivered-sound c = search needs
+
+delivered-sound-requires : tie.Need-delivered-sound-requires Inv-loop μ-loop
+delivered-sound-requires c κs = search needs
+
+add-s : tie.Need-add-s Inv-loop μ-loop
+add-s c = omega arith
+
+loop-less : tie.Need-loop-less Inv-loop μ-loop
+loop-less c = omega arith
+
+loop-again : tie.Need-loop-again Inv-loop μ-loop
+unfolding serverSound
+loop-again c =
+    let h : c .before .before .before .before .before .before .before .before .before .before .loop .s < 8 = omega arith in
+    let b = c .before .before .before .before .before .before .before .executions-sound .result && c .before .before .before .before .before .outgoing-sound .result && c .before .before .before .hold-sound .result && c .before .delivered-sound .result in
+    kept-tested _ _ _ b h (rw (seat-own (c .before .before .before .before .before .before .before .before .before .before .loop .s) h, c .before .before .before .before .before .before .before .executions-sound .ensures, c .before .before .before .before .before .outgoing-sound .ensures, c .before .before .before .hold-sound .ensures, c .before .delivered-sound .ensures)) (c .if2 .left) (c .before .before .before .before .before .before .before .before .before .before .loop .inv)
+
+returns : tie.Need-returns Inv-loop μ-loop
+unfolding serversSound
+returns c = kept-all _ _ _ (c .if1 .taken) (c .before .loop .inv)
+
+returns-2 : tie.Need-returns-2 Inv-loop μ-loop
+unfolding serversSound serverSound
+returns-2 c =
+    let h : c .before .before .before .before .before .before .before .before .before .before .loop .s < 8 = omega arith in
+    let b = c .before .before .before .before .before .before .before .executions-sound .result && c .before .before .before .before .before .outgoing-sound .result && c .before .before .before .hold-sound .result && c .before .delivered-sound .result in
+    kept-failed _ _ _ b h (rw (seat-own (c .before .before .before .before .before .before .before .before .before .before .loop .s) h, c .before .before .before .before .before .before .before .executions-sound .ensures, c .before .before .before .before .before .outgoing-sound .ensures, c .before .before .before .hold-sound .ensures, c .before .delivered-sound .ensures)) (c .if2 .taken) (c .before .before .before .before .before .before .before .before .before .before .loop .inv)
+
+pub servers-sound-spec : {M : Type 1} → statement M
+servers-sound-spec =
+    tie.close
+    (tie.spec
+    Inv-loop
+    μ-loop
+    loop-holds
+    cast-i
+    mul-executions-sound
+    array-copy-out-executions-sound
+    executions-sound-requires
+    mul-outgoing-sound
+    element-copy-out-outgoing-sound
+    outgoing-sound-requires
+    mul-hold-sound
+    element-copy-out-hold-sound
+    hold-sound-requires
+    mul-delivered-sound
+    element-copy-out-delivered-sound
+    delivered-sound-requires
+    add-s
+    loop-less
+    loop-again
+    returns
+    returns-2)

@@ -1,0 +1,34 @@
+// The boxes of the servers in a sound world.
+ghost use mathlib.Core.Path.{_≡_};
+ghost use Rattle.soundness.specs.Sound.{serversSound};
+use crate::entries::hold_sound;
+use crate::executions::executions_sound;
+use crate::items::delivered_sound;
+use crate::packets::outgoing_sound;
+use world::Roster;
+use world::World;
+
+// Whether the boxes of every server are sound.
+pub(crate) fn servers_sound(w: World) -> bool
+    ensures { λ r. ⌜ r ≡ serversSound w ⌝ }
+{
+    let roster = w.roster;
+    let numbered = w.numbered;
+    let stored = w.requests.count;
+    let tables = w.executions;
+    let mut s: u8 = 0;
+    loop {
+        if s == Roster::MOST {
+            break true;
+        }
+        let i = s as usize;
+        let x = executions_sound(roster, numbered, s, tables[i])
+            & outgoing_sound(roster, stored, s, w.outgoing[i])
+            & hold_sound(roster, stored, numbered, tables, s, w.holds[i])
+            & delivered_sound(roster, stored, numbered, s, w.delivered[i]);
+        if !x {
+            break false;
+        }
+        s += 1;
+    }
+}
