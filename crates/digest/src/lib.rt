@@ -20,7 +20,7 @@ pub struct Digest {
 }
 
 impl Digest {
-    pub const BYTES: usize = 32;
+    pub const BYTES: usize = State::BYTES;
 
     pub const MOST: usize = 55;
 

@@ -106,7 +106,7 @@ pub struct State {
 impl State {
     pub const WORDS: usize = 8;
 
-    const BYTES: usize = 32;
+    pub const BYTES: usize = 4 * State::WORDS;
 
     // The initial hash value.
     pub(crate) fn start() -> State

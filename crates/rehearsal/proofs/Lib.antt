@@ -1,2 +1,3 @@
 pub mod Lenses
 pub mod Going
+pub mod Unique

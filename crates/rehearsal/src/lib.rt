@@ -7,5 +7,7 @@ mod stepping;
 pub use boxing::Touch;
 pub use running::Ran;
 pub use running::run;
+pub use soundness::quiet;
 pub use starting::start;
 pub use stepping::Taken;
+pub use stepping::step;

@@ -20,7 +20,7 @@ pub struct Requests {
 impl Request {
     pub const COMMAND: usize = 24;
     // The client, the number's four bytes, the seals and the command.
-    pub const BYTES: usize = 30;
+    pub const BYTES: usize = 6 + Request::COMMAND;
 
     // A slot that is not given yet.
     pub fn unused() -> Request
