@@ -53,8 +53,8 @@ pub fn run(s: &[u8], answers: &mut [u8]) -> Ran
         let Kind::Act(a) = kind else {
             let q = v.requests;
             let stored = store(s, start, v.roster, q);
-            let answer = stored.answer;
-            answers[k] = answer.number();
+            let told = stored.answer;
+            answers[k] = told.number();
             let q = stored.requests;
             v.requests = q;
             k += 1;
