@@ -1,4 +1,4 @@
--- What the types say of requests and executions: how long their arrays are. Assumes nothing.
+-- What the types say of requests and executions: how long their digests are. Assumes nothing.
 use mathlib.Core.Path.{_≡_}
 use Prim.Native.Nat.{ℕ}
 use lib.ListN.{length}
@@ -9,12 +9,8 @@ use denote.Struct.Declared.{shape}
 use Rattle.digest.specs.Digest.{digestBytes}
 use Rattle.world.specs.declared.request.Request.{Request}
 use Rattle.world.specs.declared.execution.Execution.{Execution}
-use Rattle.world.specs.Sizes.{commandBytes}
 use Rattle.world.proofs.request.Request as request-of
 use Rattle.world.proofs.execution.Execution as execution-of
-
-pub request-command : (q : Request) (vs : Valss (shape request-of.the-type .fields)) → shadow (owns (shape request-of.the-type .fields) (request-of.the-type .to q) vs) → length (q .command) ≡ commandBytes
-request-command q vs g = length-unmapped ℕ (q .command) commandBytes (g .1 .1 .1 .0 .1 .0 .1)
 
 pub request-digest : (q : Request) (vs : Valss (shape request-of.the-type .fields)) → shadow (owns (shape request-of.the-type .fields) (request-of.the-type .to q) vs) → length (q .digest) ≡ digestBytes
 request-digest q vs g = length-unmapped ℕ (q .digest) digestBytes (g .1 .1 .1 .1 .0 .1 .0 .1)

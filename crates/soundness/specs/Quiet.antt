@@ -1,7 +1,7 @@
 -- Document 01, "Quiet": "no outgoing place holds a packet for a correct server, and no correct server has (even where its step would answer
 -- 9) a stage-one entry whose execution exists, a stage-two entry whose execution is numbered, or a stage-three entry with its next number."
 use Prim.Native.Nat.{ℕ}
-use mathlib.Core.Bool.{Bool, true, false, not, _&&_, _||_}
+use mathlib.Core.Bool.{Bool, false, not, _&&_, _||_}
 use mathlib.Core.List.{List}
 use lib.Dec.{eqb}
 use Rattle.search.specs.declared.Found.{Found}
@@ -37,6 +37,7 @@ stirs t next e =
     (eqb (e .stage) 1 && isFound (ownExecution t e)) || (eqb (e .stage) 2 && isNumbered t (ownExecution t e))
     || (eqb (e .stage) 3 && eqb (e .number) next)
 
+-- no entry of a server, whose next number is given, with which it could go on
 unfoldable pub holdQuiet : List Executions → ℕ → Hold → Bool
 holdQuiet ts next h = every (λ (k : ℕ). not (stirs (tableOf ts (entryAt h k .sender)) next (entryAt h k))) holdPlaces
 

@@ -33,17 +33,19 @@ use Rattle.soundness.specs.Names.{names, tableOf, ownExecution}
 abbrev pub implies : Bool → Bool → Bool
 implies a b = not a || b
 
--- requests: "every count within its size", "unused places all zeros", "seals of stored requests have no bit at n or above; stored digests are
--- those of their requests and differ from each other"
+-- "seals of stored requests have no bit at n or above; stored digests are those of their requests"
 unfoldable pub storedSound : Roster → Request → Bool
 storedSound r q = not (strays r (q .seals)) && sameDigest (q .digest) (digestOf (requestBytes q))
 
+-- slot k, stored or not; "unused places all zeros"
 unfoldable pub slotSound : Roster → ℕ → ℕ → Request → Bool
 slotSound r stored k q = cond (ltb k stored) (storedSound r q) (zeroRequest q)
 
+-- "and differ from each other": no slot before slot k has its digest
 unfoldable pub newDigest : Requests → ℕ → Bool
 newDigest q k = every (λ (j : ℕ). not (sameDigest (requestAt q j .digest) (requestAt q k .digest))) k
 
+-- the requests; "every count within its size"
 unfoldable pub requestsSound : Roster → Requests → Bool
 requestsSound r q =
     leb (q .count) requestsMost && every (λ (k : ℕ). slotSound r (q .count) k (requestAt q k)) requestsMost
@@ -67,10 +69,11 @@ orderSound r m x =
 unfoldable pub executionSound : Roster → ℕ → ℕ → ℕ → Execution → Bool
 executionSound r m sender k x = masksSound r sender x && orderSound r m x && implies (correct r sender) (eqb (x .id) (k + 1))
 
+-- place k of the table, used or not
 unfoldable pub placeSound : Roster → ℕ → ℕ → ℕ → ℕ → Execution → Bool
 placeSound r m sender made k x = cond (ltb k made) (executionSound r m sender k x) (zeroExecution x)
 
--- "execution keys differ": the ids of one sender's
+-- "execution keys differ": no execution of the sender before place k has its id
 unfoldable pub newId : Executions → ℕ → Bool
 newId t k = every (λ (j : ℕ). not (eqb (executionAt t j .id) (executionAt t k .id))) k
 
@@ -88,14 +91,15 @@ unfoldable pub numbersSound : List Executions → ℕ → Bool
 numbersSound ts m =
     leb m deliveredMost && every (λ (k : ℕ). eqb (count (λ (i : ℕ). eqb (numberAt ts i) (k + 1)) (servers * executionsMost)) 1) m
 
--- packets
+-- a place of a packet: "every server below n", and where there is none, zeros
 unfoldable pub packetSound : Roster → ℕ → ℕ → Packet → Bool
 packetSound r stored origin p = cond (p .there) (member r origin && member r (p .to) && names r stored (p .sender) (p .slot)) (zeroPacket p)
 
+-- the packets of one origin
 unfoldable pub outgoingSound : Roster → ℕ → ℕ → Outgoing → Bool
 outgoingSound r stored origin o = every (λ (k : ℕ). packetSound r stored origin (packetAt o k)) outgoingPlaces
 
--- an entry: "has a number, from 1 to M, exactly at stage three"
+-- "an entry has a number, from 1 to M, exactly at stage three"
 unfoldable pub stageSound : ℕ → Entry → Bool
 stageSound m e = cond (eqb (e .stage) 3) (leb 1 (e .number) && leb (e .number) m) (eqb (e .number) 0)
 
@@ -106,14 +110,16 @@ entrySound r stored m server t e =
     (leb (e .stage) 3 && member r server && names r stored (e .sender) (e .slot)
     && implies (ltb 1 (e .stage)) (isFound (ownExecution t e)) && stageSound m e)
 
+-- the entries of one server
 unfoldable pub holdSound : Roster → ℕ → ℕ → List Executions → ℕ → Hold → Bool
 holdSound r stored m ts server h =
     every (λ (k : ℕ). entrySound r stored m server (tableOf ts (entryAt h k .sender)) (entryAt h k)) holdPlaces
 
--- "a server's next number is its delivered count plus one, and that count is at most M"
+-- place k of what a server has delivered, used or not
 unfoldable pub itemSound : Roster → ℕ → ℕ → ℕ → Item → Bool
 itemSound r stored done k i = cond (ltb k done) (names r stored (i .sender) (i .slot)) (zeroItem i)
 
+-- "a server's next number is its delivered count plus one, and that count is at most M"
 unfoldable pub deliveredSound : Roster → ℕ → ℕ → ℕ → Delivered → Bool
 deliveredSound r stored m server d =
     leb (d .count) m && (member r server || eqb (d .count) 0)
@@ -126,6 +132,7 @@ serverSound w s =
     && holdSound (w .roster) (w .requests .count) (w .numbered) (w .executions) s (holdOf w s)
     && deliveredSound (w .roster) (w .requests .count) (w .numbered) s (deliveredOf w s)
 
+-- and of all
 unfoldable pub serversSound : World → Bool
 serversSound w = every (λ (s : ℕ). serverSound w s) servers
 

@@ -21,8 +21,8 @@ fn lies_within(mask: u8, called: u8) -> bool
         if i == Roster::MOST {
             break true;
         }
-        let proposal = !has(mask, i) | has(called, i);
-        if !proposal {
+        let called_too = !has(mask, i) | has(called, i);
+        if !called_too {
             break false;
         }
         i += 1;

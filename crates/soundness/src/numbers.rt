@@ -54,7 +54,8 @@ pub(crate) fn numbers_sound(tables: [Executions; World::SERVERS], numbered: u32)
         if k == numbered {
             break true;
         }
-        if times(numbers, k + 1) != 1 {
+        let once = times(numbers, k + 1) == 1;
+        if !once {
             break false;
         }
         k += 1;

@@ -22,11 +22,11 @@ pub(crate) fn servers_sound(w: World) -> bool
             break true;
         }
         let i = s as usize;
-        let x = executions_sound(roster, numbered, s, tables[i])
+        let all = executions_sound(roster, numbered, s, tables[i])
             & outgoing_sound(roster, stored, s, w.outgoing[i])
             & hold_sound(roster, stored, numbered, tables, s, w.holds[i])
             & delivered_sound(roster, stored, numbered, s, w.delivered[i]);
-        if !x {
+        if !all {
             break false;
         }
         s += 1;

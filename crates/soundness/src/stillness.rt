@@ -82,5 +82,6 @@ pub(crate) fn server_quiet(
 ) -> bool
     ensures { λ r. ⌜ r ≡ outgoingQuiet roster o && (not (correct roster server) || holdQuiet tables next h) ⌝ }
 {
-    outgoing_quiet(roster, o) & (!is_correct(roster, server) | hold_quiet(tables, next, h))
+    let correct = is_correct(roster, server);
+    outgoing_quiet(roster, o) & (!correct | hold_quiet(tables, next, h))
 }

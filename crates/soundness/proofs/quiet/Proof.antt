@@ -1,8 +1,8 @@
+use mathlib.Core.Path.{_≡_}
 use borrow.Author.Needs.{needs}
-use Prim.Native.Nat.{ℕ, _-_}
+use Prim.Native.Nat.{ℕ, _-_, _<_}
 use native.Mathlib.Omega.{arith}
 use Rattle.search.proofs.Laws.{Kept, kept-none, kept-all, kept-tested, kept-failed}
-use Prim.Native.Nat.{_<_}
 use Rattle.soundness.specs.Quiet.{serverQuiet, quiet}
 use Rattle.soundness.proofs.Seats.{seat-own}
 use Rattle.soundness.proofs.quiet.Statement.{statement}
@@ -50,21 +50,23 @@ add-s c = omega arith
 loop-less : tie.Need-loop-less Inv-loop μ-loop
 loop-less c = omega arith
 
-loop-again : tie.Need-loop-again Inv-loop μ-loop
+-- the answer of a turn says whether the server's boxes are quiet
+turn : (c : tie.After-server-quiet Inv-loop μ-loop) → c .server-quiet .result ≡ serverQuiet (c .before .before .before .before .before .before .before .before .before .args .t1) (c .before .before .before .before .before .before .before .loop .s)
 unfolding serverQuiet
-loop-again c =
-    let h : c .before .before .before .before .before .before .before .before .loop .s < 8 = omega arith in
-    kept-tested _ _ _ (c .before .server-quiet .result) h (rw (seat-own (c .before .before .before .before .before .before .before .before .loop .s) h, c .before .server-quiet .ensures, c .before .before .before .next .ensures)) (c .if2 .left) (c .before .before .before .before .before .before .before .before .loop .inv)
+turn c =
+    let h : c .before .before .before .before .before .before .before .loop .s < 8 = omega arith in
+    rw (seat-own (c .before .before .before .before .before .before .before .loop .s) h, c .server-quiet .ensures, c .before .before .next .ensures)
+
+loop-again : tie.Need-loop-again Inv-loop μ-loop
+loop-again c = kept-tested _ _ _ _ (omega arith) (turn (c .before)) (c .if2 .left) (c .before .before .before .before .before .before .before .before .loop .inv)
 
 returns : tie.Need-returns Inv-loop μ-loop
 unfolding quiet
 returns c = kept-all _ _ _ (c .if1 .taken) (c .before .loop .inv)
 
 returns-2 : tie.Need-returns-2 Inv-loop μ-loop
-unfolding quiet serverQuiet
-returns-2 c =
-    let h : c .before .before .before .before .before .before .before .before .loop .s < 8 = omega arith in
-    kept-failed _ _ _ (c .before .server-quiet .result) h (rw (seat-own (c .before .before .before .before .before .before .before .before .loop .s) h, c .before .server-quiet .ensures, c .before .before .before .next .ensures)) (c .if2 .taken) (c .before .before .before .before .before .before .before .before .loop .inv)
+unfolding quiet
+returns-2 c = kept-failed _ _ _ _ (omega arith) (turn (c .before)) (c .if2 .taken) (c .before .before .before .before .before .before .before .before .loop .inv)
 
 pub quiet-spec : {M : Type 1} → statement M
 quiet-spec =

@@ -1,16 +1,14 @@
-use Rattle.soundness.specs.Sound.{numberAt}
+use Rattle.soundness.specs.Sound.{numberAt, numbersSound}
 use Rattle.soundness.proofs.Filled.{filled-once}
 use borrow.Author.Needs.{needs}
-use Prim.Native.Nat.{ℕ, _-_}
+use Prim.Native.Nat.{ℕ, _-_, _+_}
 use native.Mathlib.Omega.{arith}
-use mathlib.Core.Path.{_≡_, sym, ap, _∙_}
-use Prim.Native.Nat.{_+_}
-use borrow.Author.Tests.{eq-eqb, ne-eqb, le-leb, lt-leb}
+use mathlib.Core.Path.{_≡_, ap, _∙_}
+use borrow.Author.Tests.{le-leb, lt-leb}
 use lib.Dec.{eqb}
 use lib.ListN.{getD}
-use Rattle.search.specs.Search.{count}
-use Rattle.search.proofs.Laws.{Kept, kept-none, kept-more, kept-not, kept-all}
-use Rattle.soundness.specs.Sound.{numbersSound}
+use Rattle.search.specs.Search.{every, count}
+use Rattle.search.proofs.Laws.{Kept, kept-none, kept-all, kept-tested, kept-failed}
 use Rattle.soundness.proofs.numbers.numbers_sound.Statement.{statement}
 use Rattle.soundness.proofs.numbers.numbers_sound.Tie as tie
 
@@ -43,19 +41,21 @@ loop-less : tie.Need-loop-less Inv-loop μ-loop
 loop-less c = search needs
 
 loop-again : tie.Need-loop-again Inv-loop μ-loop
-loop-again c = kept-more _ _ _ (omega arith) (eq-eqb _ _ (sym (c .before .times .ensures) ∙ c .if3 .left)) (c .before .before .before .loop .inv)
+loop-again c = kept-tested _ _ _ (eqb (c .before .times .result) 1) (omega arith) (ap (λ (n : ℕ). eqb n 1) (c .before .times .ensures)) (c .if3 .left) (c .before .before .before .loop .inv)
+
+-- the numbers that were taken out are those of the executions
+once : (c : tie.After-numbers-of Inv-loop μ-loop)
+    → every (λ (k : ℕ). eqb (count (λ (i : ℕ). eqb (getD (c .numbers-of .result) i 0) (k + 1)) 128) 1) (c .before .before .args .numbered) ≡ numbersSound (c .before .before .args .tables) (c .before .before .args .numbered)
+unfolding numbersSound
+once c =
+    rw (le-leb _ _ (c .before .if1 .left)) (filled-once (λ (i : ℕ). numberAt (c .before .before .args .tables) i) (c .numbers-of .result) 128 (c .before .before .args .numbered) (c .numbers-of .ensures))
 
 returns-2 : tie.Need-returns-2 Inv-loop μ-loop
-unfolding numbersSound
-returns-2 c =
-    let o = filled-once (λ (i : ℕ). numberAt (c .before .before .before .before .args .tables) i) (c .before .before .numbers-of .result) 128 (c .before .before .before .before .args .numbered) (c .before .before .numbers-of .ensures) in
-    rw (le-leb _ _ (c .before .before .before .if1 .left)) (kept-all _ _ _ (c .if2 .taken) (c .before .loop .inv) ∙ o)
+returns-2 c = kept-all _ _ _ (c .if2 .taken) (c .before .loop .inv) ∙ once (c .before .before)
 
 returns-3 : tie.Need-returns-3 Inv-loop μ-loop
-unfolding numbersSound
 returns-3 c =
-    let o = filled-once (λ (i : ℕ). numberAt (c .before .before .before .before .before .before .args .tables) i) (c .before .before .before .before .numbers-of .result) 128 (c .before .before .before .before .before .before .args .numbered) (c .before .before .before .before .numbers-of .ensures) in
-    rw (le-leb _ _ (c .before .before .before .before .before .if1 .left)) (kept-not _ _ _ (omega arith) (ap (λ (n : ℕ). eqb n 1) (sym (c .before .times .ensures)) ∙ ne-eqb _ _ (c .if3 .taken)) (c .before .before .before .loop .inv) ∙ o)
+    kept-failed _ _ _ (eqb (c .before .times .result) 1) (omega arith) (ap (λ (n : ℕ). eqb n 1) (c .before .times .ensures)) (c .if3 .taken) (c .before .before .before .loop .inv) ∙ once (c .before .before .before .before)
 
 pub numbers-sound-spec : {M : Type 1} → statement M
 numbers-sound-spec =

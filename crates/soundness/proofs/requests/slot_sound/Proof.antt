@@ -1,4 +1,3 @@
-use mathlib.Core.Path.{_≡_, sym, ap, _∙_}
 use borrow.Author.Tests.{lt-ltb, le-ltb}
 use Rattle.soundness.specs.Sound.{slotSound}
 use borrow.Author.Needs.{needs}

@@ -1,9 +1,9 @@
+use mathlib.Core.Path.{_≡_}
 use borrow.Author.Needs.{needs}
-use Prim.Native.Nat.{ℕ, _-_}
+use Prim.Native.Nat.{ℕ, _-_, _<_}
 use native.Mathlib.Omega.{arith}
 use Rattle.search.proofs.Laws.{Kept, kept-none, kept-all, kept-tested, kept-failed}
 use mathlib.Core.Bool.{_&&_}
-use Prim.Native.Nat.{_<_}
 use Rattle.soundness.specs.Sound.{serverSound, serversSound}
 use Rattle.soundness.proofs.Seats.{seat-own}
 use Rattle.soundness.proofs.servers.servers_sound.Statement.{statement}
@@ -63,23 +63,25 @@ add-s c = omega arith
 loop-less : tie.Need-loop-less Inv-loop μ-loop
 loop-less c = omega arith
 
-loop-again : tie.Need-loop-again Inv-loop μ-loop
+-- the four answers of a turn together say whether the server's boxes are sound
+turn : (c : tie.After-delivered-sound Inv-loop μ-loop)
+    → (c .before .before .before .before .before .before .executions-sound .result && c .before .before .before .before .outgoing-sound .result && c .before .before .hold-sound .result && c .delivered-sound .result)
+    ≡ serverSound (c .before .before .before .before .before .before .before .before .before .before .before .before .args .t1) (c .before .before .before .before .before .before .before .before .before .loop .s)
 unfolding serverSound
-loop-again c =
-    let h : c .before .before .before .before .before .before .before .before .before .before .loop .s < 8 = omega arith in
-    let b = c .before .before .before .before .before .before .before .executions-sound .result && c .before .before .before .before .before .outgoing-sound .result && c .before .before .before .hold-sound .result && c .before .delivered-sound .result in
-    kept-tested _ _ _ b h (rw (seat-own (c .before .before .before .before .before .before .before .before .before .before .loop .s) h, c .before .before .before .before .before .before .before .executions-sound .ensures, c .before .before .before .before .before .outgoing-sound .ensures, c .before .before .before .hold-sound .ensures, c .before .delivered-sound .ensures)) (c .if2 .left) (c .before .before .before .before .before .before .before .before .before .before .loop .inv)
+turn c =
+    let h : c .before .before .before .before .before .before .before .before .before .loop .s < 8 = omega arith in
+    rw (seat-own (c .before .before .before .before .before .before .before .before .before .loop .s) h, c .before .before .before .before .before .before .executions-sound .ensures, c .before .before .before .before .outgoing-sound .ensures, c .before .before .hold-sound .ensures, c .delivered-sound .ensures)
+
+loop-again : tie.Need-loop-again Inv-loop μ-loop
+loop-again c = kept-tested _ _ _ _ (omega arith) (turn (c .before)) (c .if2 .left) (c .before .before .before .before .before .before .before .before .before .before .loop .inv)
 
 returns : tie.Need-returns Inv-loop μ-loop
 unfolding serversSound
 returns c = kept-all _ _ _ (c .if1 .taken) (c .before .loop .inv)
 
 returns-2 : tie.Need-returns-2 Inv-loop μ-loop
-unfolding serversSound serverSound
-returns-2 c =
-    let h : c .before .before .before .before .before .before .before .before .before .before .loop .s < 8 = omega arith in
-    let b = c .before .before .before .before .before .before .before .executions-sound .result && c .before .before .before .before .before .outgoing-sound .result && c .before .before .before .hold-sound .result && c .before .delivered-sound .result in
-    kept-failed _ _ _ b h (rw (seat-own (c .before .before .before .before .before .before .before .before .before .before .loop .s) h, c .before .before .before .before .before .before .before .executions-sound .ensures, c .before .before .before .before .before .outgoing-sound .ensures, c .before .before .before .hold-sound .ensures, c .before .delivered-sound .ensures)) (c .if2 .taken) (c .before .before .before .before .before .before .before .before .before .before .loop .inv)
+unfolding serversSound
+returns-2 c = kept-failed _ _ _ _ (omega arith) (turn (c .before)) (c .if2 .taken) (c .before .before .before .before .before .before .before .before .before .before .loop .inv)
 
 pub servers-sound-spec : {M : Type 1} → statement M
 servers-sound-spec =

@@ -2,7 +2,6 @@ use Rattle.soundness.proofs.Seats.{seated}
 use borrow.Author.Needs.{needs}
 use Prim.Native.Nat.{ℕ, _-_}
 use native.Mathlib.Omega.{arith}
-use mathlib.Core.Path.{sym, ap, _∙_}
 use mathlib.Core.Bool.{not}
 use Rattle.search.proofs.Laws.{Kept, kept-none, kept-more, kept-not, kept-all}
 use Rattle.world.specs.Hold.{entryAt}

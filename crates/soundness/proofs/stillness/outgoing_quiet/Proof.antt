@@ -1,8 +1,7 @@
 use borrow.Author.Needs.{needs}
 use Prim.Native.Nat.{ℕ, _-_}
 use native.Mathlib.Omega.{arith}
-use mathlib.Core.Path.{sym, ap, _∙_}
-use mathlib.Core.Bool.{Bool, not, _&&_}
+use mathlib.Core.Bool.{not, _&&_}
 use Rattle.search.proofs.Laws.{Kept, kept-none, kept-more, kept-not, kept-all}
 use Rattle.world.specs.Roster.{correct}
 use Rattle.world.specs.Outgoing.{packetAt}

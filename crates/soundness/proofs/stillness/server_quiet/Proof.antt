@@ -2,11 +2,11 @@ use borrow.Author.Needs.{needs}
 use Rattle.soundness.proofs.stillness.server_quiet.Statement.{statement}
 use Rattle.soundness.proofs.stillness.server_quiet.Tie as tie
 
-outgoing-quiet-requires : tie.Need-outgoing-quiet-requires
-outgoing-quiet-requires c κs = search needs
-
 is-correct-requires : tie.Need-is-correct-requires
 is-correct-requires c κs = search needs
+
+outgoing-quiet-requires : tie.Need-outgoing-quiet-requires
+outgoing-quiet-requires c κs = search needs
 
 hold-quiet-requires : tie.Need-hold-quiet-requires
 hold-quiet-requires c κs = search needs
@@ -16,4 +16,4 @@ returns c = cc
 
 pub server-quiet-spec : {M : Type 1} → statement M
 server-quiet-spec =
-    tie.close (tie.spec outgoing-quiet-requires is-correct-requires hold-quiet-requires returns)
+    tie.close (tie.spec is-correct-requires outgoing-quiet-requires hold-quiet-requires returns)

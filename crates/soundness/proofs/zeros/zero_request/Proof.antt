@@ -1,4 +1,5 @@
-use Rattle.soundness.proofs.Typed.{request-command, request-digest}
+use Rattle.world.proofs.Typed.{request-command}
+use Rattle.soundness.proofs.Typed.{request-digest}
 use borrow.Author.Needs.{needs}
 use Rattle.soundness.proofs.zeros.zero_request.Statement.{statement}
 use Rattle.soundness.proofs.zeros.zero_request.Tie as tie
