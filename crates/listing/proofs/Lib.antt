@@ -1,0 +1,5 @@
+pub mod Placing
+pub mod Decimals
+pub mod Rows
+pub mod Fates
+pub mod Unique
