@@ -35,7 +35,7 @@ fn refused(schedule: &[u8]) -> Option<(u8, usize)> {
     schedule::run(schedule, &mut [0; 99]).err().map(|refused| (refused.refusal.number(), refused.offset))
 }
 
-const CASE_A: &str = "
+pub const CASE_A: &str = "
     01 03 00
     02 05 00000001 07 414141414141414141414141414141414141414141414141
     03 00 00  04 00 00  05 01 00  06 01 00  07 01  07 00  06 00 00  07 00

@@ -4,15 +4,17 @@
 //! The claims about a whole run (demand 3): `claims`.
 //! The comparison with another program: `random`, `draft`, `damage` and `generate` make schedules, `program` runs
 //! the other program, `compare` says where the two differ, `shrink` (with `intent`) makes a differing schedule small.
-//! For people: `hex` and `readable`.
+//! For people: `hex` and `readable`; `draw` (with `story`, `layout` and `svg`) shows a run as a picture.
 
 pub mod claims;
 pub mod compare;
 pub mod damage;
 pub mod draft;
+pub mod draw;
 pub mod generate;
 pub mod hex;
 pub mod intent;
+pub mod layout;
 pub mod listing;
 pub mod options;
 pub mod program;
@@ -24,6 +26,8 @@ pub mod sha256;
 pub mod shrink;
 pub mod sound;
 pub mod steps;
+pub mod story;
+pub mod svg;
 pub mod world;
 
 #[cfg(test)]
