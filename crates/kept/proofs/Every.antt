@@ -1,0 +1,144 @@
+-- What the Boolean tests of `sound` say: joined tests, searches, and tests at every place. Assumes nothing.
+use mathlib.Core.Path.{_≡_, refl, sym, ap, _∙_}
+use mathlib.Core.Logic.{_⊎_, inl, inr, _≢_}
+use mathlib.Core.Bool.{Bool, true, false, cond, not, _&&_, _||_}
+use Prim.Native.Nat.{ℕ, zero, suc, _+_, _<_, _≤_}
+use native.Mathlib.Omega.{arith}
+use lib.Dec.{eqb, ltb}
+use borrow.Author.Tests.{eqb-true, eqb-false, ltb-true, ltb-false}
+use Rattle.search.specs.declared.Found.{Found}
+use Rattle.search.specs.declared.Found.the-variants.{At, Nothing}
+use Rattle.search.specs.Search.{firstFrom, first, isFound, any, every}
+use Rattle.search.specs.Tests.{must}
+use Rattle.search.proofs.Laws.{found-in}
+use Rattle.soundness.specs.Sound.{implies}
+
+-- two truth values
+pub apart : {A : Type 0} (b : Bool) → b ≡ true → b ≡ false → A
+apart b e f = let z : _≡_ {A = ℕ} 0 1 = cc in absurd (omega arith)
+
+pub cases : (b : Bool) → (b ≡ true) ⊎ (b ≡ false)
+cases true = inl refl
+cases false = inr refl
+
+pub either : {A B C : Type 0} → A ⊎ B → (A → C) → (B → C) → C
+either (inl a) f g = f a
+either (inr b) f g = g b
+
+pub same? : (a b : ℕ) → (a ≡ b) ⊎ (a ≢ b)
+same? a b = either (cases (eqb a b)) (λ e. inl (eqb-true a b e)) (λ e. inr (eqb-false a b e))
+
+pub less? : (a b : ℕ) → (a < b) ⊎ (b ≤ a)
+less? a b = either (cases (ltb a b)) (λ e. inl (ltb-true a b e)) (λ e. inr (ltb-false a b e))
+
+-- joined tests
+pub and-left : (a b : Bool) → (a && b) ≡ true → a ≡ true
+and-left true b e = refl
+and-left false b e = e
+
+pub and-right : (a b : Bool) → (a && b) ≡ true → b ≡ true
+and-right true b e = e
+and-right false b e = apart false e refl
+
+pub and-both : {a b : Bool} → a ≡ true → b ≡ true → (a && b) ≡ true
+and-both p q = rw (p, q)
+
+pub or-right : (a b : Bool) → b ≡ true → (a || b) ≡ true
+or-right true b e = refl
+or-right false b e = e
+
+pub or-left : (a b : Bool) → a ≡ true → (a || b) ≡ true
+or-left a b e = rw e
+
+-- an implication is known by its parts
+pub implies-out : (a b : Bool) → implies a b ≡ true → a ≡ true → b ≡ true
+implies-out true b e p = e
+implies-out false b e p = apart false p refl
+
+pub implies-in : (a b : Bool) → (a ≡ true → b ≡ true) → implies a b ≡ true
+implies-in true b f = f refl
+implies-in false b f = refl
+
+-- a choice: its value by the test's, and a fact of it by cases
+pub cond-in : (c a b : Bool) → (c ≡ true → a ≡ true) → (c ≡ false → b ≡ true) → cond c a b ≡ true
+cond-in true a b f g = f refl
+cond-in false a b f g = g refl
+
+pub cond-yes : (c a b : Bool) → c ≡ true → cond c a b ≡ true → a ≡ true
+cond-yes true a b p e = e
+cond-yes false a b p e = apart false p refl
+
+pub cond-no : (c a b : Bool) → c ≡ false → cond c a b ≡ true → b ≡ true
+cond-no true a b p e = apart true refl p
+cond-no false a b p e = e
+
+-- a fact of what a choice gives
+pub chosen : {A : Type 0} (P : A → Type 0) (c : Bool) (x y : A) → (c ≡ true → P x) → (c ≡ false → P y) → P (cond c x y)
+chosen P true x y f g = f refl
+chosen P false x y f g = g refl
+
+-- what holds of a refusal, and of what follows where the test holds, holds of the test's outcome
+pub musts : {A : Type 0} (P : A → Type 0) (c : Bool) (x y : A) → P x → (c ≡ true → P y) → P (must c x y)
+unfolding must
+musts P true x y p f = f refl
+musts P false x y p f = p
+
+-- a search finds a place at which the test holds, and if there is one, it finds one
+from-step : (rest : Found) (t : ℕ → Bool) (at i : ℕ) (b : Bool) → t at ≡ b → (rest ≡ At i → t i ≡ true) → cond b (At at) rest ≡ At i → t i ≡ true
+from-step rest t at i true e h p = let z : at ≡ i = cc in rw (← z) e
+from-step rest t at i false e h p = h p
+
+from-at : (t : ℕ → Bool) (at n i : ℕ) → firstFrom t at n ≡ At i → t i ≡ true
+unfolding firstFrom
+from-at t at zero i e = let z : _≡_ {A = ℕ} 0 1 = cc in absurd (omega arith)
+from-at t at (suc n) i e = from-step (firstFrom t (at + 1) n) t at i (t at) refl (from-at t (at + 1) n i) e
+
+pub found-at : (t : ℕ → Bool) (n i : ℕ) → first t n ≡ At i → t i ≡ true
+found-at t n i e = from-at t 0 n i e
+
+any-step : (rest : Found) (at : ℕ) (b : Bool) → (b ≡ false → isFound rest ≡ true) → isFound (cond b (At at) rest) ≡ true
+any-step rest at true h = refl
+any-step rest at false h = h refl
+
+any-from : (t : ℕ → Bool) (at n k : ℕ) → at ≤ k → k < at + n → t k ≡ true → isFound (firstFrom t at n) ≡ true
+unfolding firstFrom
+any-from t at zero k a b e = absurd (omega arith)
+any-from t at (suc n) k a b e =
+    any-step (firstFrom t (at + 1) n) at (t at)
+    (λ no. either (same? at k)
+    (λ (s : at ≡ k). apart (t k) e (rw s at no))
+    (λ (s : at ≢ k). any-from t (at + 1) n k (omega arith) (omega arith) e))
+
+pub any-in : (t : ℕ → Bool) (n k : ℕ) → k < n → t k ≡ true → any t n ≡ true
+any-in t n k h e = any-from t 0 n k (omega arith) (omega arith) e
+
+pub any-none : (t : ℕ → Bool) (n k : ℕ) → any t n ≡ false → k < n → t k ≡ false
+any-none t n k e h = either (cases (t k)) (λ (y : t k ≡ true). apart (any t n) (any-in t n k h y) e) (λ (y : t k ≡ false). y)
+
+-- the place that was found
+pub found-where : (f : Found) → isFound f ≡ true → (i : ℕ) × (f ≡ At i)
+found-where (At i) e = (i, refl)
+found-where Nothing e = apart false e refl
+
+pub not-in : (b : Bool) → b ≡ false → not b ≡ true
+not-in b e = rw e
+
+pub not-out : (b : Bool) → not b ≡ true → b ≡ false
+not-out true e = sym e
+not-out false e = refl
+
+pub not-no : (b : Bool) → not b ≡ false → b ≡ true
+not-no true e = refl
+not-no false e = sym e
+
+-- a test at every place
+pub every-at : (t : ℕ → Bool) (n : ℕ) → every t n ≡ true → (k : ℕ) → k < n → t k ≡ true
+every-at t n e k h = not-no (t k) (any-none (λ (i : ℕ). not (t i)) n k (not-out _ e) h)
+
+every-by : (t : ℕ → Bool) (n : ℕ) → ((k : ℕ) → k < n → t k ≡ true) → (f : Found) → f ≡ first (λ (i : ℕ). not (t i)) n → not (isFound f) ≡ true
+every-by t n h (At i) e =
+    apart (t i) (h i (found-in _ n i (At i) e refl)) (not-out (t i) (found-at (λ (k : ℕ). not (t k)) n i (sym e)))
+every-by t n h Nothing e = refl
+
+pub every-all : (t : ℕ → Bool) (n : ℕ) → ((k : ℕ) → k < n → t k ≡ true) → every t n ≡ true
+every-all t n h = every-by t n h (first (λ (i : ℕ). not (t i)) n) refl
