@@ -1,1 +1,3 @@
 pub mod Every
+pub mod Counts
+pub mod Bits
