@@ -106,10 +106,11 @@ pub record Numbers (f : ℕ → ℕ) (n m : ℕ) : Type 0 where
 -- no number changes
 pub numbers-same : (f g : ℕ → ℕ) (n m : ℕ) → ((i : ℕ) → i < n → g i ≡ f i) → Numbers f n m → Numbers g n m
 numbers-same f g n m h s =
-    record
-    { most = s .most;
+    record {
+      most = s .most;
       low = λ i p. rw (h i p) (s .low i p);
-      once = λ k p. count-same _ _ n (λ i q. ap (λ (x : ℕ). eqb x (k + 1)) (h i q)) ∙ s .once k p }
+      once = λ k p. count-same _ _ n (λ i q. ap (λ (x : ℕ). eqb x (k + 1)) (h i q)) ∙ s .once k p;
+    }
 
 -- one place gets the next number
 module _ (f g : ℕ → ℕ) (n m z : ℕ) (s : Numbers f n m) (p : z < n) (none : f z ≡ 0) (next : g z ≡ m + 1)

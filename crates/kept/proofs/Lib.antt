@@ -1,3 +1,4 @@
 pub mod Every
 pub mod Counts
 pub mod Bits
+pub mod Facts
