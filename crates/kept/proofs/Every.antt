@@ -25,6 +25,10 @@ pub either : {A B C : Type 0} → A ⊎ B → (A → C) → (B → C) → C
 either (inl a) f g = f a
 either (inr b) f g = g b
 
+-- by a test's value
+pub test : {C : Type 0} (b : Bool) → (b ≡ true → C) → (b ≡ false → C) → C
+test b f g = either (cases b) f g
+
 pub same? : (a b : ℕ) → (a ≡ b) ⊎ (a ≢ b)
 same? a b = either (cases (eqb a b)) (λ e. inl (eqb-true a b e)) (λ e. inr (eqb-false a b e))
 
@@ -32,13 +36,25 @@ pub less? : (a b : ℕ) → (a < b) ⊎ (b ≤ a)
 less? a b = either (cases (ltb a b)) (λ e. inl (ltb-true a b e)) (λ e. inr (ltb-false a b e))
 
 -- joined tests
-pub and-left : (a b : Bool) → (a && b) ≡ true → a ≡ true
+and-left : (a b : Bool) → (a && b) ≡ true → a ≡ true
 and-left true b e = refl
 and-left false b e = e
 
-pub and-right : (a b : Bool) → (a && b) ≡ true → b ≡ true
+and-right : (a b : Bool) → (a && b) ≡ true → b ≡ true
 and-right true b e = e
 and-right false b e = apart false e refl
+
+pub and2 : (a b : Bool) → (a && b) ≡ true → (a ≡ true) × (b ≡ true)
+and2 a b e = (and-left a b e, and-right a b e)
+
+pub and3 : (a b c : Bool) → (a && b && c) ≡ true → (a ≡ true) × (b ≡ true) × (c ≡ true)
+and3 a b c e = let f = and2 a b (and-left (a && b) c e) in (f .0, f .1, and-right (a && b) c e)
+
+pub and4 : (a b c d : Bool) → (a && b && c && d) ≡ true → (a ≡ true) × (b ≡ true) × (c ≡ true) × (d ≡ true)
+and4 a b c d e = let f = and3 a b c (and-left (a && b && c) d e) in (f .0, f .1, f .2, and-right (a && b && c) d e)
+
+pub and5 : (a b c d g : Bool) → (a && b && c && d && g) ≡ true → (a ≡ true) × (b ≡ true) × (c ≡ true) × (d ≡ true) × (g ≡ true)
+and5 a b c d g e = let f = and4 a b c d (and-left (a && b && c && d) g e) in (f .0, f .1, f .2, f .3, and-right (a && b && c && d) g e)
 
 pub and-both : {a b : Bool} → a ≡ true → b ≡ true → (a && b) ≡ true
 and-both p q = rw (p, q)
@@ -58,19 +74,6 @@ implies-out false b e p = apart false p refl
 pub implies-in : (a b : Bool) → (a ≡ true → b ≡ true) → implies a b ≡ true
 implies-in true b f = f refl
 implies-in false b f = refl
-
--- a choice: its value by the test's, and a fact of it by cases
-pub cond-in : (c a b : Bool) → (c ≡ true → a ≡ true) → (c ≡ false → b ≡ true) → cond c a b ≡ true
-cond-in true a b f g = f refl
-cond-in false a b f g = g refl
-
-pub cond-yes : (c a b : Bool) → c ≡ true → cond c a b ≡ true → a ≡ true
-cond-yes true a b p e = e
-cond-yes false a b p e = apart false p refl
-
-pub cond-no : (c a b : Bool) → c ≡ false → cond c a b ≡ true → b ≡ true
-cond-no true a b p e = apart true refl p
-cond-no false a b p e = e
 
 -- a fact of what a choice gives
 pub chosen : {A : Type 0} (P : A → Type 0) (c : Bool) (x y : A) → (c ≡ true → P x) → (c ≡ false → P y) → P (cond c x y)

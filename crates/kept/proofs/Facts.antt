@@ -11,6 +11,7 @@ use lib.ListN.{length, getD, set}
 use lib.Seq.{getD-set-same, getD-set-other}
 use borrow.Author.Tests.{eq-eqb, eqb-true, eqb-false, ne-eqb, leb-true, le-leb, ltb-true, lt-ltb}
 use Rattle.search.specs.Search.{isFound, every, count}
+use Rattle.digest.specs.Digest.{digestBytes}
 use Rattle.world.specs.declared.World.{World}
 use Rattle.world.specs.declared.roster.Roster.{Roster}
 use Rattle.world.specs.declared.request.Request.{Request}
@@ -29,13 +30,13 @@ use Rattle.world.specs.Requests.{requestAt}
 use Rattle.world.specs.Executions.{executionAt, executionOf}
 use Rattle.world.specs.Outgoing.{packetAt}
 use Rattle.world.specs.Hold.{entryAt}
-use Rattle.world.specs.Boxes.{seat, itemAt}
-use Rattle.soundness.specs.Zeros.{zeroExecution}
+use Rattle.world.specs.Boxes.{seat, executionsOf, outgoingOf, holdOf, deliveredOf, itemAt}
+use Rattle.soundness.specs.Zeros.{zeroBytes}
 use Rattle.soundness.specs.Names.{names, tableOf, ownExecution}
 use Rattle.soundness.specs.Sound.{implies, slotSound, newDigest, requestsSound, masksSound, orderSound, executionSound, placeSound, newId, executionsSound, numberAt, numbersSound, packetSound, outgoingSound, stageSound, entrySound, holdSound, itemSound, deliveredSound, serverSound, serversSound, sound}
 use Rattle.soundness.proofs.Seats.{seat-own}
 use Rattle.kept.specs.Kept.{Shaped}
-use Rattle.kept.proofs.Every.{either, cases, same?, and-left, and-right, and-both, implies-in, implies-out, cond-in, cond-yes, cond-no, every-at, every-all}
+use Rattle.kept.proofs.Every.{either, test, same?, and2, and3, and4, and5, and-both, implies-in, implies-out, every-at, every-all}
 use Rattle.kept.proofs.Counts.{Numbers}
 
 -- what reads past the boxes give
@@ -68,12 +69,8 @@ pub record Stored (r : Roster) (q : Requests) : Type 0 where
 stored-out : (r : Roster) (q : Requests) → length (q .slots) ≡ requestsMost → requestsSound r q ≡ true → Stored r q
 unfolding requestsSound
 stored-out r q l e =
-    record {
-      size = l;
-      most = leb-true _ _ (and-left _ _ (and-left _ _ e));
-      slots = every-at _ _ (and-right _ _ (and-left _ _ e));
-      new = every-at _ _ (and-right _ _ e);
-    }
+    let a = and3 (leb (q .count) requestsMost) (every (λ (k : ℕ). slotSound r (q .count) k (requestAt q k)) requestsMost) (every (λ (k : ℕ). newDigest q k) (q .count)) e in
+    record { size = l; most = leb-true (q .count) requestsMost (a .0); slots = every-at _ _ (a .1); new = every-at _ _ (a .2) }
 
 stored-in : (r : Roster) (q : Requests) → Stored r q → requestsSound r q ≡ true
 unfolding requestsSound
@@ -90,13 +87,11 @@ pub record Table (r : Roster) (m x : ℕ) (t : Executions) : Type 0 where
 table-out : (r : Roster) (m x : ℕ) (t : Executions) → length (t .table) ≡ executionsMost → executionsSound r m x t ≡ true → Table r m x t
 unfolding executionsSound
 table-out r m x t l e =
-    record {
-      size = l;
-      most = leb-true _ _ (and-left _ _ (and-left _ _ (and-left _ _ e)));
-      theirs = and-right _ _ (and-left _ _ (and-left _ _ e));
-      places = every-at _ _ (and-right _ _ (and-left _ _ e));
-      new = every-at _ _ (and-right _ _ e);
-    }
+    let a =
+    and4 (leb (t .count) executionsMost) (member r x || eqb (t .count) 0)
+    (every (λ (k : ℕ). placeSound r m x (t .count) k (executionAt t k)) executionsMost) (every (λ (k : ℕ). newId t k) (t .count)) e
+    in
+    record { size = l; most = leb-true (t .count) executionsMost (a .0); theirs = a .1; places = every-at _ _ (a .2); new = every-at _ _ (a .3) }
 
 table-in : (r : Roster) (m x : ℕ) (t : Executions) → Table r m x t → executionsSound r m x t ≡ true
 unfolding executionsSound
@@ -112,44 +107,43 @@ pub record Made (r : Roster) (m x k : ℕ) (e : Execution) : Type 0 where
 pub place-out : (r : Roster) (m x c k : ℕ) (e : Execution) → k < c → placeSound r m x c k e ≡ true → Made r m x k e
 unfolding placeSound executionSound
 place-out r m x c k e h p =
-    let a = cond-yes _ _ _ (lt-ltb k c h) p in
-    record {
-      masks = and-left _ _ (and-left _ _ a);
-      order = and-right _ _ (and-left _ _ a);
-      gapless = λ y. eqb-true _ _ (implies-out _ _ (and-right _ _ a) y);
-    }
+    let a = and3 (masksSound r x e) (orderSound r m e) (implies (correct r x) (eqb (e .id) (k + 1))) (rw (lt-ltb k c h) at p) in
+    record { masks = a .0; order = a .1; gapless = λ y. eqb-true (e .id) (k + 1) (implies-out (correct r x) (eqb (e .id) (k + 1)) (a .2) y) }
 
 pub place-in : (r : Roster) (m x c k : ℕ) (e : Execution) → k < c → Made r m x k e → placeSound r m x c k e ≡ true
 unfolding placeSound executionSound
 place-in r m x c k e h p =
-    rw (lt-ltb k c h) (and-both (and-both (p .masks) (p .order)) (implies-in _ _ (λ y. eq-eqb _ _ (p .gapless y))))
+    rw (lt-ltb k c h) (and-both (and-both (p .masks) (p .order)) (implies-in (correct r x) (eqb (e .id) (k + 1)) (λ y. eq-eqb (e .id) (k + 1) (p .gapless y))))
 
 -- a number is one of 1 to M, or none
 order-low : (r : Roster) (m : ℕ) (e : Execution) → orderSound r m e ≡ true → e .number ≤ m
 unfolding orderSound
 order-low r m e p =
-    either (cases (eqb (e .number) 0))
-    (λ (z : eqb (e .number) 0 ≡ true). omega (arith, eqb-true (e .number) 0 z))
-    (λ (z : eqb (e .number) 0 ≡ false). leb-true _ _ (and-right _ _ (cond-no _ _ _ z p)))
+    test (eqb (e .number) 0)
+    (λ z. omega (arith, eqb-true (e .number) 0 z))
+    (λ z. leb-true (e .number) m (and2 (eqb (ones (e .mask)) (threshold r)) (leb (e .number) m) (rw z at p) .1))
 
 place-low : (r : Roster) (m x c k : ℕ) (e : Execution) → placeSound r m x c k e ≡ true → e .number ≤ m
 unfolding placeSound
 place-low r m x c k e p =
-    either (cases (ltb k c))
-    (λ (z : ltb k c ≡ true). order-low r m e (place-out r m x c k e (ltb-true k c z) p .order))
-    (λ (z : ltb k c ≡ false). let n : e .number ≡ 0 = eqb-true _ _ (and-left _ _ (and-left _ _ (and-left _ _ (and-left _ _ (cond-no _ _ _ z p))))) in omega arith)
+    test (ltb k c)
+    (λ z. order-low r m e (place-out r m x c k e (ltb-true k c z) p .order))
+    (λ z.
+    let a = and5 (eqb (e .number) 0) (eqb (e .id) 0) (eqb (e .called) 0) (eqb (e .mask) 0) (zeroBytes (e .digest) digestBytes) (rw z at p) in
+    omega (arith, eqb-true (e .number) 0 (a .0)))
 
 -- the numbers of all executions
-numbers-out : (r : Roster) (m : ℕ) (ts : List Executions) → numbersSound ts m ≡ true → ((s : ℕ) → s < servers → Table r m s (getD ts s noTable))
+pub numbers-out : (r : Roster) (m : ℕ) (ts : List Executions) → numbersSound ts m ≡ true → ((s : ℕ) → s < servers → Table r m s (getD ts s noTable))
     → Numbers (numberAt ts) (servers * executionsMost) m
 unfolding numbersSound
 numbers-out r m ts e h =
+    let a = and2 (leb m deliveredMost) (every (λ (k : ℕ). eqb (count (λ (i : ℕ). eqb (numberAt ts i) (k + 1)) (servers * executionsMost)) 1) m) e in
     record {
-      most = leb-true _ _ (and-left _ _ e);
+      most = leb-true m deliveredMost (a .0);
       low = λ i p.
           let q : i / executionsMost < servers = omega arith in
           rw (seat-own (i / executionsMost) q, numberAt) (place-low r m (i / executionsMost) _ _ _ (h (i / executionsMost) q .places (i % executionsMost) (omega arith)));
-      once = λ k p. eqb-true _ _ (every-at _ _ (and-right _ _ e) k p);
+      once = λ k p. eqb-true _ 1 (every-at (λ (k : ℕ). eqb (count (λ (i : ℕ). eqb (numberAt ts i) (k + 1)) (servers * executionsMost)) 1) m (a .1) k p);
     }
 
 numbers-in : (m : ℕ) (ts : List Executions) → Numbers (numberAt ts) (servers * executionsMost) m → numbersSound ts m ≡ true
@@ -195,23 +189,28 @@ pub record Held (r : Roster) (stored m x : ℕ) (t : Executions) (e : Entry) : T
 pub entry-out : (r : Roster) (stored m x : ℕ) (t : Executions) (e : Entry) → e .stage ≢ 0 → entrySound r stored m x t e ≡ true → Held r stored m x t e
 unfolding entrySound
 entry-out r stored m x t e d p =
-    let a = cond-no _ _ _ (ne-eqb _ _ d) p in
-    let b = and-left _ _ (and-left _ _ a) in
+    let a =
+    and5 (leb (e .stage) 3) (member r x) (names r stored (e .sender) (e .slot)) (implies (ltb 1 (e .stage)) (isFound (ownExecution t e))) (stageSound m e)
+    (rw (ne-eqb (e .stage) 0 d) at p)
+    in
+    let b = and2 (member r (e .sender)) (ltb (e .slot) stored) (a .2) in
     record {
-      stage = leb-true _ _ (and-left _ _ (and-left _ _ b));
-      holder = and-right _ _ (and-left _ _ b);
-      sender = and-left _ _ (and-right _ _ b);
-      slot = and-right _ _ (and-right _ _ b);
-      named = λ h. implies-out _ _ (and-right _ _ (and-left _ _ a)) (lt-ltb _ _ h);
-      number = and-right _ _ a;
+      stage = leb-true (e .stage) 3 (a .0);
+      holder = a .1;
+      sender = b .0;
+      slot = b .1;
+      named = λ h. implies-out (ltb 1 (e .stage)) (isFound (ownExecution t e)) (a .3) (lt-ltb 1 (e .stage) h);
+      number = a .4;
     }
 
 pub entry-in : (r : Roster) (stored m x : ℕ) (t : Executions) (e : Entry) → e .stage ≢ 0 → Held r stored m x t e → entrySound r stored m x t e ≡ true
 unfolding entrySound
 entry-in r stored m x t e d p =
-    rw (ne-eqb _ _ d)
+    rw (ne-eqb (e .stage) 0 d)
     (and-both
-    (and-both (and-both (and-both (le-leb _ _ (p .stage)) (p .holder)) (and-both (p .sender) (p .slot))) (implies-in _ _ (λ h. p .named (ltb-true _ _ h))))
+    (and-both
+    (and-both (and-both (le-leb (e .stage) 3 (p .stage)) (p .holder)) (and-both (p .sender) (p .slot)))
+    (implies-in (ltb 1 (e .stage)) (isFound (ownExecution t e)) (λ h. p .named (ltb-true 1 (e .stage) h))))
     (p .number))
 
 -- delivered items
@@ -224,7 +223,11 @@ pub record Items (r : Roster) (stored m x : ℕ) (d : Delivered) : Type 0 where
 items-out : (r : Roster) (stored m x : ℕ) (d : Delivered) → length (d .items) ≡ deliveredMost → deliveredSound r stored m x d ≡ true → Items r stored m x d
 unfolding deliveredSound
 items-out r stored m x d l e =
-    record { size = l; most = leb-true _ _ (and-left _ _ (and-left _ _ e)); theirs = and-right _ _ (and-left _ _ e); places = every-at _ _ (and-right _ _ e) }
+    let a =
+    and3 (leb (d .count) m) (member r x || eqb (d .count) 0)
+    (every (λ (k : ℕ). itemSound r stored (d .count) k (itemAt d k)) deliveredMost) e
+    in
+    record { size = l; most = leb-true (d .count) m (a .0); theirs = a .1; places = every-at _ _ (a .2) }
 
 items-in : (r : Roster) (stored m x : ℕ) (d : Delivered) → Items r stored m x d → deliveredSound r stored m x d ≡ true
 unfolding deliveredSound
@@ -248,41 +251,40 @@ abbrev pub FactsOf : World → Type 0
 FactsOf w = Facts (w .roster) (w .numbered) (w .requests) (w .executions) (w .outgoing) (w .holds) (w .delivered)
 
 module _ (w : World) (g : Shaped w) (e : sound w ≡ true) where
-  server : (s : ℕ) → s < servers → serverSound w s ≡ true
-  unfolding sound serversSound
-  server s h = every-at _ _ (and-right _ _ e) s h
+  parts : (goodRoster (w .roster) ≡ true) × (requestsSound (w .roster) (w .requests) ≡ true) × (numbersSound (w .executions) (w .numbered) ≡ true) × (serversSound w ≡ true)
+  unfolding sound
+  parts = and4 (goodRoster (w .roster)) (requestsSound (w .roster) (w .requests)) (numbersSound (w .executions) (w .numbered)) (serversSound w) e
+
+  boxes : (s : ℕ) → s < servers
+      → (executionsSound (w .roster) (w .numbered) s (executionsOf w s) ≡ true) × (outgoingSound (w .roster) (w .requests .count) s (outgoingOf w s) ≡ true)
+      × (holdSound (w .roster) (w .requests .count) (w .numbered) (w .executions) s (holdOf w s) ≡ true)
+      × (deliveredSound (w .roster) (w .requests .count) (w .numbered) s (deliveredOf w s) ≡ true)
+  unfolding serversSound serverSound
+  boxes s h =
+      and4 (executionsSound (w .roster) (w .numbered) s (executionsOf w s)) (outgoingSound (w .roster) (w .requests .count) s (outgoingOf w s))
+      (holdSound (w .roster) (w .requests .count) (w .numbered) (w .executions) s (holdOf w s))
+      (deliveredSound (w .roster) (w .requests .count) (w .numbered) s (deliveredOf w s))
+      (every-at (λ (k : ℕ). serverSound w k) servers (parts .3) s h)
 
   tables-of : (s : ℕ) → s < servers → Table (w .roster) (w .numbered) s (getD (w .executions) s noTable)
-  unfolding serverSound
-  tables-of s h =
-      rw (seat-own s h) at
-      (table-out (w .roster) (w .numbered) s (getD (w .executions) (seat s) noTable) (g .tables s h) (and-left _ _ (and-left _ _ (and-left _ _ (server s h)))))
+  tables-of s h = rw (seat-own s h) at (table-out (w .roster) (w .numbered) s (executionsOf w s) (g .tables s h) (boxes s h .0))
 
   packets-of : (s : ℕ) → s < servers → Packets (w .roster) (w .requests .count) s (getD (w .outgoing) s noPackets)
-  unfolding serverSound
-  packets-of s h =
-      rw (seat-own s h) at
-      (packets-out (w .roster) (w .requests .count) s (getD (w .outgoing) (seat s) noPackets) (g .packets s h) (and-right _ _ (and-left _ _ (and-left _ _ (server s h)))))
+  packets-of s h = rw (seat-own s h) at (packets-out (w .roster) (w .requests .count) s (outgoingOf w s) (g .packets s h) (boxes s h .1))
 
   entries-of : (s : ℕ) → s < servers → Entries (w .roster) (w .requests .count) (w .numbered) (w .executions) s (getD (w .holds) s noEntries)
-  unfolding serverSound
   entries-of s h =
-      rw (seat-own s h) at
-      (entries-out (w .roster) (w .requests .count) (w .numbered) (w .executions) s (getD (w .holds) (seat s) noEntries) (g .entries s h) (and-right _ _ (and-left _ _ (server s h))))
+      rw (seat-own s h) at (entries-out (w .roster) (w .requests .count) (w .numbered) (w .executions) s (holdOf w s) (g .entries s h) (boxes s h .2))
 
   items-of : (s : ℕ) → s < servers → Items (w .roster) (w .requests .count) (w .numbered) s (getD (w .delivered) s noItems)
-  unfolding serverSound
-  items-of s h =
-      rw (seat-own s h) at
-      (items-out (w .roster) (w .requests .count) (w .numbered) s (getD (w .delivered) (seat s) noItems) (g .items s h) (and-right _ _ (server s h)))
+  items-of s h = rw (seat-own s h) at (items-out (w .roster) (w .requests .count) (w .numbered) s (deliveredOf w s) (g .items s h) (boxes s h .3))
 
   pub world-out : FactsOf w
-  unfolding sound
   world-out =
       record {
-        roster = and-left _ _ (and-left _ _ (and-left _ _ e));
-        requests = stored-out (w .roster) (w .requests) (g .slots) (and-right _ _ (and-left _ _ (and-left _ _ e)));
-        numbers = numbers-out (w .roster) (w .numbered) (w .executions) (and-right _ _ (and-left _ _ e)) tables-of;
+        roster = parts .0;
+        requests = stored-out (w .roster) (w .requests) (g .slots) (parts .1);
+        numbers = numbers-out (w .roster) (w .numbered) (w .executions) (parts .2) tables-of;
         all-tables = g .executions;
         all-packets = g .outgoing;
         all-entries = g .holds;

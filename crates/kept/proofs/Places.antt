@@ -1,0 +1,118 @@
+-- What a change at one place does to sound boxes: an entry, a packet or an item put there. Assumes nothing.
+use mathlib.Core.Path.{_≡_, refl, sym, ap, _∙_}
+use mathlib.Core.Logic.{_≢_}
+use mathlib.Core.Bool.{Bool, true, false, cond, not, _&&_}
+use mathlib.Core.List.{List}
+use Prim.Native.Nat.{ℕ, zero, suc, _+_, _<_, _≤_}
+use native.Mathlib.Omega.{arith}
+use lib.Dec.{eqb, ltb}
+use lib.ListN.{length, set, length-set}
+use borrow.Author.Tests.{eqb-true, ltb-true, ltb-false, lt-ltb, le-ltb}
+use Rattle.search.specs.declared.Found.{Found}
+use Rattle.search.specs.declared.Found.the-variants.{At, Nothing}
+use Rattle.search.specs.Search.{first}
+use Rattle.search.proofs.Laws.{found-in}
+use Rattle.world.specs.declared.roster.Roster.{Roster}
+use Rattle.world.specs.declared.execution.Executions.{Executions}
+use Rattle.world.specs.declared.outgoing.Outgoing.{Outgoing}
+use Rattle.world.specs.declared.outgoing.Packet.{Packet}
+use Rattle.world.specs.declared.outgoing.Sending.{Sending}
+use Rattle.world.specs.declared.hold.Entry.{Entry}
+use Rattle.world.specs.declared.hold.Hold.{Hold}
+use Rattle.world.specs.declared.delivered.Item.{Item}
+use Rattle.world.specs.declared.delivered.Delivered.{Delivered}
+use Rattle.world.specs.Sizes.{servers, outgoingPlaces, holdPlaces, deliveredMost}
+use Rattle.world.specs.Masks.{has}
+use Rattle.world.specs.Roster.{member}
+use Rattle.world.specs.Outgoing.{freePacket, packetFor, packetAt, isFree, freePlace, putPacket, cleared, postedAt, posted, recipient, sentBelow, sent}
+use Rattle.world.specs.Hold.{freeEntry, entryAt, vacancy, put, freed, keptAt, kept}
+use Rattle.world.specs.Delivered.{unusedItem, nextOf, appended}
+use Rattle.soundness.specs.Names.{names, tableOf}
+use Rattle.soundness.specs.Sound.{packetSound, entrySound, itemSound}
+use Rattle.kept.proofs.Every.{test, chosen, and3, and-both, or-left}
+use Rattle.kept.proofs.Facts.{set-cases, Packets, Entries, Items}
+
+-- a hold
+module _ (r : Roster) (stored m : ℕ) (ts : List Executions) (x : ℕ) (h : Hold) (f : Entries r stored m ts x h) where
+  pub entry-put : (k : ℕ) (e : Entry) → k < holdPlaces → entrySound r stored m x (tableOf ts (e .sender)) e ≡ true → Entries r stored m ts x (put h k e)
+  entry-put k e p s =
+      record {
+        size = length-set (h .places) k e ∙ f .size;
+        places = λ j q.
+            set-cases (λ y. entrySound r stored m x (tableOf ts (y .sender)) y ≡ true) (h .places) k j e freeEntry (omega (arith, f .size)) (λ _. s)
+            (λ _. f .places j q);
+      }
+
+  free-sound : (t : Executions) → entrySound r stored m x t freeEntry ≡ true
+  unfolding entrySound
+  free-sound t = refl
+
+  pub entry-freed : (k : ℕ) → k < holdPlaces → Entries r stored m ts x (freed h k)
+  entry-freed k p = entry-put k freeEntry p (free-sound _)
+
+  kept-at : (e : Entry) → entrySound r stored m x (tableOf ts (e .sender)) e ≡ true → (g : Found) → g ≡ vacancy h → Entries r stored m ts x (keptAt h e g)
+  unfolding keptAt
+  kept-at e s (At k) q = entry-put k e (found-in _ holdPlaces k (At k) q refl) s
+  kept-at e s Nothing q = f
+
+  pub entry-kept : (e : Entry) → entrySound r stored m x (tableOf ts (e .sender)) e ≡ true → Entries r stored m ts x (kept h e)
+  unfolding kept
+  entry-kept e s = kept-at e s (vacancy h) refl
+
+-- the outgoing places
+module _ (r : Roster) (stored x : ℕ) where
+  packet-put : (o : Outgoing) → Packets r stored x o → (k : ℕ) (p : Packet) → k < outgoingPlaces → packetSound r stored x p ≡ true
+      → Packets r stored x (putPacket o k p)
+  packet-put o f k p l s =
+      record {
+        size = length-set (o .places) k p ∙ f .size;
+        places = λ j q. set-cases (λ y. packetSound r stored x y ≡ true) (o .places) k j p freePacket (omega (arith, f .size)) (λ _. s) (λ _. f .places j q);
+      }
+
+  pub packet-cleared : (o : Outgoing) → Packets r stored x o → (k : ℕ) → k < outgoingPlaces → Packets r stored x (cleared o k)
+  unfolding packetSound
+  packet-cleared o f k l = packet-put o f k freePacket l refl
+
+  posted-at : (o : Outgoing) → Packets r stored x o → (p : Packet) → packetSound r stored x p ≡ true → (g : Found) → g ≡ freePlace o → Packets r stored x (postedAt o p g)
+  unfolding postedAt
+  posted-at o f p s (At k) q = packet-put o f k p (found-in _ outgoingPlaces k (At k) q refl) s
+  posted-at o f p s Nothing q = f
+
+  pub packet-posted : (o : Outgoing) → Packets r stored x o → (p : Packet) → packetSound r stored x p ≡ true → Packets r stored x (posted o p)
+  unfolding posted
+  packet-posted o f p s = posted-at o f p s (freePlace o) refl
+
+  module _ (mine : member r x ≡ true) (s : Sending) (good : names r stored (s .sender) (s .slot) ≡ true) where
+    pub sending-sound : (to : ℕ) → member r to ≡ true → packetSound r stored x (packetFor to s) ≡ true
+    unfolding packetSound
+    sending-sound to l = and-both (and-both mine l) good
+
+    below : (mask server : ℕ) (o : Outgoing) → Packets r stored x o → (n : ℕ) → Packets r stored x (sentBelow r mask server s o n)
+    unfolding sentBelow
+    below mask server o f zero = f
+    below mask server o f (suc n) =
+        let g = below mask server o f n in
+        chosen (λ v. Packets r stored x v) (recipient r mask server n) (posted (sentBelow r mask server s o n) (packetFor n s)) (sentBelow r mask server s o n)
+        (λ e. packet-posted (sentBelow r mask server s o n) g (packetFor n s) (sending-sound n (and3 (member r n) (not (has mask n)) (not (eqb n server)) e .0)))
+        (λ _. g)
+
+    pub packets-sent : (mask server : ℕ) (o : Outgoing) → Packets r stored x o → Packets r stored x (sent r mask server s o)
+    packets-sent mask server o f = below mask server o f servers
+
+-- an item more
+pub item-appended : (r : Roster) (stored m x : ℕ) (d : Delivered) (i : Item) → m ≤ deliveredMost → d .count < m → member r x ≡ true
+    → names r stored (i .sender) (i .slot) ≡ true → Items r stored m x d → Items r stored m x (appended d i)
+unfolding itemSound
+item-appended r stored m x d i a b mine good f =
+    let n : nextOf d ≡ d .count + 1 = omega arith in
+    record {
+      size = length-set (d .items) (d .count) i ∙ f .size;
+      most = omega arith;
+      theirs = or-left (member r x) _ mine;
+      places = λ k p.
+          set-cases (λ y. itemSound r stored (nextOf d) k y ≡ true) (d .items) (d .count) k i unusedItem (omega (arith, f .size))
+          (λ (e : k ≡ d .count). rw (lt-ltb k (nextOf d) (omega arith)) good)
+          (λ (e : k ≢ d .count). test (ltb k (d .count))
+          (λ z. rw (lt-ltb k (nextOf d) (omega (arith, ltb-true k (d .count) z))) (rw z at (f .places k p)))
+          (λ z. rw (le-ltb k (nextOf d) (omega (arith, ltb-false k (d .count) z))) (rw z at (f .places k p))));
+    }
