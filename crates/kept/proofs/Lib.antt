@@ -6,3 +6,7 @@ pub mod Start
 pub mod More
 pub mod Putting
 pub mod Places
+pub mod Requesting
+pub mod Delivering
+pub mod Arriving
+pub mod Forging

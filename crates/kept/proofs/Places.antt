@@ -10,7 +10,7 @@ use lib.ListN.{length, set, length-set}
 use borrow.Author.Tests.{eqb-true, ltb-true, ltb-false, lt-ltb, le-ltb}
 use Rattle.search.specs.declared.Found.{Found}
 use Rattle.search.specs.declared.Found.the-variants.{At, Nothing}
-use Rattle.search.specs.Search.{first}
+use Rattle.search.specs.Search.{first, isFound}
 use Rattle.search.proofs.Laws.{found-in}
 use Rattle.world.specs.declared.roster.Roster.{Roster}
 use Rattle.world.specs.declared.execution.Executions.{Executions}
@@ -25,12 +25,29 @@ use Rattle.world.specs.Sizes.{servers, outgoingPlaces, holdPlaces, deliveredMos
 use Rattle.world.specs.Masks.{has}
 use Rattle.world.specs.Roster.{member}
 use Rattle.world.specs.Outgoing.{freePacket, packetFor, packetAt, isFree, freePlace, putPacket, cleared, postedAt, posted, recipient, sentBelow, sent}
-use Rattle.world.specs.Hold.{freeEntry, entryAt, vacancy, put, freed, keptAt, kept}
+use Rattle.world.specs.Hold.{entryOf, freeEntry, entryAt, vacancy, put, freed, keptAt, kept}
 use Rattle.world.specs.Delivered.{unusedItem, nextOf, appended}
-use Rattle.soundness.specs.Names.{names, tableOf}
-use Rattle.soundness.specs.Sound.{packetSound, entrySound, itemSound}
-use Rattle.kept.proofs.Every.{test, chosen, and3, and-both, or-left}
-use Rattle.kept.proofs.Facts.{set-cases, Packets, Entries, Items}
+use Rattle.soundness.specs.Names.{names, tableOf, ownExecution}
+use Rattle.soundness.specs.Sound.{packetSound, stageSound, entrySound, itemSound}
+use Rattle.kept.proofs.Every.{test, chosen, and2, and3, and-both, or-left}
+use Rattle.kept.proofs.Facts.{set-cases, Packets, Entries, Items, entry-in}
+
+-- an entry at stage one, and one at stage two, whose execution is in the table
+module _ (r : Roster) (stored m x : ℕ) (t : Executions) (mine : member r x ≡ true) (sender id slot : ℕ) (good : names r stored sender slot ≡ true) where
+  named-by : (member r sender ≡ true) × (ltb slot stored ≡ true)
+  named-by = and2 (member r sender) (ltb slot stored) good
+
+  pub first-entry : entrySound r stored m x t (entryOf 1 sender id slot 0) ≡ true
+  unfolding stageSound
+  first-entry =
+      entry-in r stored m x t (entryOf 1 sender id slot 0) (λ z. omega arith)
+      (record { stage = omega arith; holder = mine; sender = named-by .0; slot = named-by .1; named = λ h. absurd (omega arith); number = refl })
+
+  pub second-entry : isFound (ownExecution t (entryOf 2 sender id slot 0)) ≡ true → entrySound r stored m x t (entryOf 2 sender id slot 0) ≡ true
+  unfolding stageSound
+  second-entry found =
+      entry-in r stored m x t (entryOf 2 sender id slot 0) (λ z. omega arith)
+      (record { stage = omega arith; holder = mine; sender = named-by .0; slot = named-by .1; named = λ h. found; number = refl })
 
 -- a hold
 module _ (r : Roster) (stored m : ℕ) (ts : List Executions) (x : ℕ) (h : Hold) (f : Entries r stored m ts x h) where
@@ -58,6 +75,12 @@ module _ (r : Roster) (stored m : ℕ) (ts : List Executions) (x : ℕ) (h : Hol
   pub entry-kept : (e : Entry) → entrySound r stored m x (tableOf ts (e .sender)) e ≡ true → Entries r stored m ts x (kept h e)
   unfolding kept
   entry-kept e s = kept-at e s (vacancy h) refl
+
+-- what a packet under way names
+pub packet-out : (r : Roster) (stored x : ℕ) (p : Packet) → p .there ≡ true → packetSound r stored x p ≡ true
+    → (member r x ≡ true) × (member r (p .to) ≡ true) × (names r stored (p .sender) (p .slot) ≡ true)
+unfolding packetSound
+packet-out r stored x p there e = and3 (member r x) (member r (p .to)) (names r stored (p .sender) (p .slot)) (rw there at e)
 
 -- the outgoing places
 module _ (r : Roster) (stored x : ℕ) where

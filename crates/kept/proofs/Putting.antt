@@ -10,12 +10,17 @@ use lib.Seq.{set-getD}
 use Rattle.world.specs.declared.World.{World}
 use Rattle.world.specs.declared.roster.Roster.{Roster}
 use Rattle.world.specs.declared.execution.Executions.{Executions}
+use Rattle.world.specs.declared.outgoing.Outgoing.{Outgoing}
+use Rattle.world.specs.declared.hold.Hold.{Hold}
+use Rattle.world.specs.declared.delivered.Delivered.{Delivered}
 use Rattle.world.specs.Sizes.{servers, executionsMost}
 use Rattle.world.specs.Boxes.{seat}
 use Rattle.soundness.specs.Names.{tableOf}
 use Rattle.soundness.specs.Sound.{numberAt}
 use Rattle.soundness.proofs.Seats.{seat-own, seated}
 use Rattle.rules.specs.declared.boxes.Boxes.{Boxes}
+use Rattle.rules.specs.declared.boxes.Stepped.{Stepped}
+use Rattle.rules.specs.Rules.{withHold, withOutgoing, withDelivered}
 use Rattle.rehearsal.specs.declared.boxing.Touch.{Touch}
 use Rattle.rehearsal.specs.Steps.{boxesOf, putBack}
 use Rattle.kept.proofs.Counts.{Numbers}
@@ -87,3 +92,21 @@ module _ (w : World) (f : FactsOf w) (t : Touch) (server : t .server < servers) 
               (λ (e : s ≡ t .server). rw e (g .items))
               (λ _. items-more (w .roster) (w .requests .count) (w .requests .count) (w .numbered) (b .numbered) s _ (omega arith) (g .more) (f .items s h));
         }
+
+-- boxes with one of them changed
+module _ {r : Roster} {stored m : ℕ} {ts : List Executions} {server holder sender : ℕ} {b : Boxes} (f : Fits r stored m ts server holder sender b) where
+  pub with-hold : (h : Hold) → Entries r stored (b .numbered) (set ts sender (b .executions)) holder h → Fits r stored m ts server holder sender (withHold b h)
+  with-hold h e =
+      record { same = f .same; more = f .more; grows = f .grows; numbers = f .numbers; table = f .table; packets = f .packets; entries = e; items = f .items }
+
+  pub with-outgoing : (o : Outgoing) → Packets r stored server o → Fits r stored m ts server holder sender (withOutgoing b o)
+  with-outgoing o e =
+      record { same = f .same; more = f .more; grows = f .grows; numbers = f .numbers; table = f .table; packets = e; entries = f .entries; items = f .items }
+
+  pub with-delivered : (d : Delivered) → Items r stored (b .numbered) server d → Fits r stored m ts server holder sender (withDelivered b d)
+  with-delivered d e =
+      record { same = f .same; more = f .more; grows = f .grows; numbers = f .numbers; table = f .table; packets = f .packets; entries = f .entries; items = e }
+
+-- a rule's outcome, whose boxes fit
+abbrev pub Keeps : Roster → ℕ → ℕ → List Executions → ℕ → ℕ → ℕ → Stepped → Type 0
+Keeps r stored m ts server holder sender s = Fits r stored m ts server holder sender (s .boxes)

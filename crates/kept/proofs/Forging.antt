@@ -1,0 +1,32 @@
+-- A forged packet's boxes fit. Assumes nothing.
+use mathlib.Core.Path.{_≡_, refl, sym, ap, _∙_}
+use mathlib.Core.Bool.{Bool, true, false, not, _&&_}
+use mathlib.Core.List.{List}
+use Prim.Native.Nat.{ℕ, _+_, _<_, _≤_}
+use native.Mathlib.Omega.{arith}
+use lib.Dec.{ltb}
+use Rattle.search.specs.Search.{isFound}
+use Rattle.world.specs.declared.roster.Roster.{Roster}
+use Rattle.world.specs.declared.execution.Executions.{Executions}
+use Rattle.world.specs.Roster.{member, faulty}
+use Rattle.world.specs.Outgoing.{freePlace, packetFor}
+use Rattle.rules.specs.declared.boxes.Boxes.{Boxes}
+use Rattle.rules.specs.declared.boxes.Stepped.{Stepped}
+use Rattle.rules.specs.Rules.{forgePacketOf}
+use Rattle.kept.proofs.Every.{musts, and3, and-both}
+use Rattle.kept.proofs.Places.{packet-posted, sending-sound}
+use Rattle.kept.proofs.Putting.{Fits, Keeps, with-outgoing}
+
+module _ (r : Roster) (stored m : ℕ) (ts : List Executions) (s h x : ℕ) (b : Boxes) (f : Fits r stored m ts s h x b) where
+  pub forge-packet-keeps : (from to sender id slot : ℕ) → (member r from ≡ true → s ≡ from) → Keeps r stored m ts s h x (forgePacketOf r from to sender id slot b)
+  unfolding forgePacketOf
+  forge-packet-keeps from to sender id slot at =
+      let P : Stepped → Type 0 = Keeps r stored m ts s h x in
+      musts P (member r from && member r to && member r sender) _ _ f λ a.
+      musts P (faulty r from) _ _ f λ _.
+      musts P (ltb slot (b .stored)) _ _ f λ there.
+      musts P (isFound (freePlace (b .outgoing))) _ _ f λ _.
+      let k = and3 (member r from) (member r to) (member r sender) a in
+      with-outgoing f _
+      (packet-posted r stored s (b .outgoing) (f .packets) (packetFor to (record { id = id; sender = sender; slot = slot }))
+      (sending-sound r stored s (rw (at (k .0)) (k .0)) (record { id = id; sender = sender; slot = slot }) (and-both (k .2) (rw (f .same) at there)) to (k .1)))
