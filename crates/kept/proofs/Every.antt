@@ -138,10 +138,12 @@ not-no false e = sym e
 pub every-at : (t : ℕ → Bool) (n : ℕ) → every t n ≡ true → (k : ℕ) → k < n → t k ≡ true
 every-at t n e k h = not-no (t k) (any-none (λ (i : ℕ). not (t i)) n k (not-out _ e) h)
 
-every-by : (t : ℕ → Bool) (n : ℕ) → ((k : ℕ) → k < n → t k ≡ true) → (f : Found) → f ≡ first (λ (i : ℕ). not (t i)) n → not (isFound f) ≡ true
-every-by t n h (At i) e =
-    apart (t i) (h i (found-in _ n i (At i) e refl)) (not-out (t i) (found-at (λ (k : ℕ). not (t k)) n i (sym e)))
-every-by t n h Nothing e = refl
+no-by : (t : ℕ → Bool) (n : ℕ) → ((k : ℕ) → k < n → t k ≡ false) → (f : Found) → f ≡ first t n → isFound f ≡ false
+no-by t n h (At i) e = apart (t i) (found-at t n i (sym e)) (h i (found-in _ n i (At i) e refl))
+no-by t n h Nothing e = refl
+
+pub any-no : (t : ℕ → Bool) (n : ℕ) → ((k : ℕ) → k < n → t k ≡ false) → any t n ≡ false
+any-no t n h = no-by t n h (first t n) refl
 
 pub every-all : (t : ℕ → Bool) (n : ℕ) → ((k : ℕ) → k < n → t k ≡ true) → every t n ≡ true
-every-all t n h = every-by t n h (first (λ (i : ℕ). not (t i)) n) refl
+every-all t n h = not-in _ (any-no (λ (k : ℕ). not (t k)) n (λ k p. ap not (h k p)))

@@ -10,3 +10,5 @@ pub mod Requesting
 pub mod Delivering
 pub mod Arriving
 pub mod Forging
+pub mod Masking
+pub mod Ordering
