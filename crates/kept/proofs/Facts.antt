@@ -116,7 +116,7 @@ place-in r m x c k e h p =
     rw (lt-ltb k c h) (and-both (and-both (p .masks) (p .order)) (implies-in (correct r x) (eqb (e .id) (k + 1)) (λ y. eq-eqb (e .id) (k + 1) (p .gapless y))))
 
 -- a number is one of 1 to M, or none
-order-low : (r : Roster) (m : ℕ) (e : Execution) → orderSound r m e ≡ true → e .number ≤ m
+pub order-low : (r : Roster) (m : ℕ) (e : Execution) → orderSound r m e ≡ true → e .number ≤ m
 unfolding orderSound
 order-low r m e p =
     test (eqb (e .number) 0)

@@ -12,3 +12,6 @@ pub mod Arriving
 pub mod Forging
 pub mod Masking
 pub mod Ordering
+pub mod Calling
+pub mod Proposing
+pub mod Multicasting

@@ -100,7 +100,12 @@ pub called-masks : (r : Roster) (x : ℕ) (e : Execution) (s : ℕ) → s < serv
 called-masks r x e s l mine p =
     masks-in r x (called e s) (called-masked r x (e .called) (e .mask) s (eqb (e .number) 0) l mine (masks-out r x e p))
 
--- what the orderer makes of an execution
+-- the orderer keeps an execution's id
+pub ordered-id : (r : Roster) (e : Execution) (m : ℕ) → ordered r e m .execution .id ≡ e .id
+unfolding ordered
+ordered-id r e m = chosen (λ (o : Ordered). o .execution .id ≡ e .id) (eqb (e .number) 0 && eqb (ones (e .mask)) (threshold r)) _ _ (λ _. refl) (λ _. refl)
+
+-- what it makes of an execution
 pub record Orders (r : Roster) (m x k : ℕ) (e : Execution) (o : Ordered) : Type 0 where
   pub id : o .execution .id ≡ e .id
   pub made : Made r (o .numbered) x k (o .execution)

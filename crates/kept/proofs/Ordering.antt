@@ -26,12 +26,12 @@ use Rattle.soundness.specs.Sound.{masksSound, orderSound, placeSound, newId, nu
 use Rattle.soundness.proofs.Seats.{seat-own}
 use Rattle.rules.specs.declared.boxes.Boxes.{Boxes}
 use Rattle.rules.specs.Rules.{withExecutions, made, recorded}
-use Rattle.kept.proofs.Every.{either, same?, less?, and2, and5, or-left, not-in, not-out, found-at, found-where, any-in, every-at, every-all}
+use Rattle.kept.proofs.Every.{either, same?, less?, and2, and5, or-left, not-in, not-out, found-at, found-where, and-both, any-in, any-none, every-at, every-all}
 use Rattle.kept.proofs.Counts.{Numbers, numbers-same, numbers-more}
 use Rattle.kept.proofs.Facts.{noTable, set-cases, Table, Made, place-in, place-out}
 use Rattle.kept.proofs.More.{Grows, place-more, entries-more, items-more}
 use Rattle.kept.proofs.Putting.{Fits, tables-grow}
-use Rattle.kept.proofs.Masking.{Orders, orders, opened-masks, called-masks}
+use Rattle.kept.proofs.Masking.{Orders, orders, ordered-id, opened-masks, called-masks}
 
 -- a table keeps what can be found in it
 grows-by : (t u : Executions) → ((k : ℕ) → k < t .count → k < executionsMost → (k < u .count) × (executionAt u k .id ≡ executionAt t k .id)) → Grows t u
@@ -43,6 +43,14 @@ grows-by t u h id p =
     let g = h k (ltb-true k (t .count) (a .0)) l in
     let e = eqb-true (executionAt t k .id) id (a .1) in
     any-in (λ (k : ℕ). ltb k (u .count) && eqb (executionAt u k .id) id) executionsMost k l (rw (lt-ltb k (u .count) (g .0)) (eq-eqb (executionAt u k .id) id (g .1 ∙ e)))
+
+-- what is found is in use, and where nothing is found no id is equal
+pub found-made : (t : Executions) (id k : ℕ) → executionOf t id ≡ At k → k < t .count
+found-made t id k e = ltb-true k (t .count) (and2 (ltb k (t .count)) (eqb (executionAt t k .id) id) (found-at _ executionsMost k e) .0)
+
+pub not-found : (t : Executions) (id j : ℕ) → isFound (executionOf t id) ≡ false → t .count ≤ executionsMost → j < t .count → executionAt t j .id ≢ id
+not-found t id j e m l =
+    eqb-false (executionAt t j .id) id (rw (lt-ltb j (t .count) l) at (any-none (λ (k : ℕ). ltb k (t .count) && eqb (executionAt t k .id) id) executionsMost j e (omega arith)))
 
 -- the numbers of all executions, with one sender's table in the place of another
 own-number : (ts : List Executions) (x i : ℕ) (t : Executions) → length ts ≡ servers → i < servers * executionsMost → i / executionsMost ≡ x
@@ -225,6 +233,19 @@ module _ (r : Roster) (stored m : ℕ) (ts : List Executions) (server holder x :
       (orders r (b .numbered) x c (opened x id digest) (f .numbers .most) (opened-masks r x id digest seated mine) (λ z. absurd (z refl)) gapless)
       room (omega arith) (omega arith) (λ j d. sides-more j c d) (λ j p d. new j (omega arith))
       (unused-number r (b .numbered) x (b .executions) (f .table) c (omega arith) room) (λ z. absurd (omega arith))
+
+  -- which can then be found
+  pub made-found : (id : ℕ) (digest : List ℕ) → b .executions .count < executionsMost → isFound (executionOf (made r x id digest b .executions) id) ≡ true
+  unfolding made
+  made-found id digest room =
+      let c = b .executions .count in
+      let o = ordered r (opened x id digest) (b .numbered) in
+      let t = changed (b .executions) c (c + 1) (o .execution) in
+      let e : executionAt t c .id ≡ id =
+      ap (λ (v : Execution). v .id) (changed-here (b .executions) c (c + 1) (o .execution) (f .table .size) room) ∙ ordered-id r (opened x id digest) (b .numbered)
+      in
+      any-in (λ (k : ℕ). ltb k (t .count) && eqb (executionAt t k .id) id) executionsMost c room
+      (and-both (lt-ltb c (c + 1) (omega arith)) (eq-eqb (executionAt t c .id) id e))
 
   -- a call recorded
   pub recorded-fits : (s k : ℕ) → k < b .executions .count → s < servers → member r s ≡ true → Fits r stored m ts server holder x (recorded r s k b)

@@ -7,7 +7,7 @@ use Prim.Native.Nat.{ℕ, zero, suc, _+_, _<_, _≤_}
 use native.Mathlib.Omega.{arith}
 use lib.Dec.{eqb, ltb}
 use lib.ListN.{length, set, length-set}
-use borrow.Author.Tests.{eqb-true, ltb-true, ltb-false, lt-ltb, le-ltb}
+use borrow.Author.Tests.{eqb-true, le-leb, ltb-true, ltb-false, lt-ltb, le-ltb}
 use Rattle.search.specs.declared.Found.{Found}
 use Rattle.search.specs.declared.Found.the-variants.{At, Nothing}
 use Rattle.search.specs.Search.{first, isFound}
@@ -27,9 +27,10 @@ use Rattle.world.specs.Roster.{member}
 use Rattle.world.specs.Outgoing.{freePacket, packetFor, packetAt, isFree, freePlace, putPacket, cleared, postedAt, posted, recipient, sentBelow, sent}
 use Rattle.world.specs.Hold.{entryOf, freeEntry, entryAt, vacancy, put, freed, keptAt, kept}
 use Rattle.world.specs.Delivered.{unusedItem, nextOf, appended}
+use Rattle.world.proofs.Lists.{getD-out}
 use Rattle.soundness.specs.Names.{names, tableOf, ownExecution}
 use Rattle.soundness.specs.Sound.{packetSound, stageSound, entrySound, itemSound}
-use Rattle.kept.proofs.Every.{test, chosen, and2, and3, and-both, or-left}
+use Rattle.kept.proofs.Every.{either, less?, test, chosen, and2, and3, and-both, or-left}
 use Rattle.kept.proofs.Facts.{set-cases, Packets, Entries, Items, entry-in}
 
 -- an entry at stage one, and one at stage two, whose execution is in the table
@@ -48,6 +49,27 @@ module _ (r : Roster) (stored m x : ℕ) (t : Executions) (mine : member r x ≡
   second-entry found =
       entry-in r stored m x t (entryOf 2 sender id slot 0) (λ z. omega arith)
       (record { stage = omega arith; holder = mine; sender = named-by .0; slot = named-by .1; named = λ h. found; number = refl })
+
+  pub third-entry : (number : ℕ) → number ≢ 0 → number ≤ m → isFound (ownExecution t (entryOf 3 sender id slot number)) ≡ true
+      → entrySound r stored m x t (entryOf 3 sender id slot number) ≡ true
+  unfolding stageSound
+  third-entry number some low found =
+      entry-in r stored m x t (entryOf 3 sender id slot number) (λ z. omega arith)
+      (record {
+        stage = omega arith;
+        holder = mine;
+        sender = named-by .0;
+        slot = named-by .1;
+        named = λ h. found;
+        number = and-both (le-leb 1 number (omega arith)) (le-leb number m low);
+      })
+
+-- past the places there is no entry
+pub entry-within : (h : Hold) (k stage : ℕ) → length (h .places) ≡ holdPlaces → entryAt h k .stage ≡ stage → stage ≢ 0 → k < holdPlaces
+entry-within h k stage l e d =
+    either (less? k holdPlaces)
+    (λ (p : k < holdPlaces). p)
+    (λ (p : holdPlaces ≤ k). absurd (d (sym e ∙ ap (λ (y : Entry). y .stage) (getD-out (h .places) k freeEntry (omega arith)))))
 
 -- a hold
 module _ (r : Roster) (stored m : ℕ) (ts : List Executions) (x : ℕ) (h : Hold) (f : Entries r stored m ts x h) where
