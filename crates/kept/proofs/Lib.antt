@@ -15,3 +15,4 @@ pub mod Ordering
 pub mod Calling
 pub mod Proposing
 pub mod Multicasting
+pub mod Stepping

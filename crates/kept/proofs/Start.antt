@@ -20,7 +20,7 @@ use Rattle.world.specs.Delivered.{freshDelivered, unusedItem}
 use Rattle.world.specs.Fresh.{freshWorld}
 use Rattle.soundness.specs.Zeros.{zeroBytes}
 use Rattle.soundness.specs.Sound.{slotSound, placeSound, numbersSound, packetSound, entrySound, itemSound}
-use Rattle.kept.specs.Kept.{Shaped, StartSound}
+use Rattle.kept.specs.Kept.{Shaped}
 use Rattle.kept.proofs.Every.{or-right}
 use Rattle.kept.proofs.Facts.{noTable, noPackets, noEntries, noItems, Stored, Table, Packets, Entries, Items, Facts, FactsOf, numbers-out, world-in, world-shaped}
 
@@ -91,6 +91,3 @@ start-facts n f good =
       entries = λ s h. rw (getD-replicate servers s freshHold noEntries h) (fresh-entries r (replicate servers freshExecutions) s);
       items = λ s h. rw (getD-replicate servers s freshDelivered noItems h) (fresh-items r s);
     }
-
-pub start-sound : StartSound
-start-sound n f good = world-in (freshWorld n f) (start-facts n f good)

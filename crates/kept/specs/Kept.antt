@@ -1,7 +1,9 @@
--- Document 01, "Refusing a whole schedule": "Start gives sound worlds and steps keep them so."
+-- Document 01, "Refusing a whole schedule": "Start gives sound worlds and steps keep them so." The steps are those of `rehearsal` (`stepOf`, with
+-- every field of a record unrestricted), and `sound` is the test by which a step answers 27.
 use Prim.Native.Nat.{ℕ, _<_}
 use mathlib.Core.Path.{_≡_}
 use mathlib.Core.Bool.{true}
+use mathlib.Core.List.{List, [], _∷_}
 use lib.ListN.{length}
 use Rattle.world.specs.declared.World.{World}
 use Rattle.world.specs.Sizes.{servers, requestsMost, executionsMost, outgoingPlaces, holdPlaces, deliveredMost}
@@ -9,6 +11,11 @@ use Rattle.world.specs.Roster.{goodRoster}
 use Rattle.world.specs.Fresh.{freshWorld}
 use Rattle.world.specs.Boxes.{executionsOf, outgoingOf, holdOf, deliveredOf}
 use Rattle.soundness.specs.Sound.{sound}
+use Rattle.schedule.specs.declared.scanning.Verdict.the-variants.{Accepted}
+use Rattle.schedule.specs.Records.{Asked, asked}
+use Rattle.schedule.specs.Judging.{judged}
+use Rattle.rehearsal.specs.Steps.{stepOf, worldAfter}
+use Rattle.rehearsal.specs.Runs.{startOf, stepped, startWorld}
 
 -- every array of a world has the size that its type says
 pub record Shaped (w : World) : Type 0 where
@@ -22,6 +29,27 @@ pub record Shaped (w : World) : Type 0 where
   pub entries : (s : ℕ) → s < servers → length (holdOf w s .places) ≡ holdPlaces
   pub items : (s : ℕ) → s < servers → length (deliveredOf w s .items) ≡ deliveredMost
 
--- a start that 25 does not refuse
-abbrev pub StartSound : Type 0
-StartSound = (n faulty : ℕ) → goodRoster (record { n = n; faulty = faulty }) ≡ true → sound (freshWorld n faulty) ≡ true
+-- both, of which steps keep the second
+pub record Good (w : World) : Type 0 where
+  pub shaped : Shaped w
+  pub isSound : sound w ≡ true
+
+-- "Start gives sound worlds": a start that 25 does not refuse
+abbrev pub StartGives : Type 0
+StartGives = (n faulty : ℕ) → goodRoster (record { n = n; faulty = faulty }) ≡ true → Good (freshWorld n faulty)
+
+-- "and steps keep them so": whatever is asked for, and whatever the answer
+abbrev pub StepsKeep : Type 0
+StepsKeep = (w : World) (a : Asked) → Good w → Good (stepOf w a .world)
+
+-- so the world at the end of every schedule that is not refused is sound
+abbrev pub RunSound : Type 0
+RunSound = (s : List ℕ) (k : ℕ) → judged s ≡ Accepted k → sound (worldAfter (startWorld s) (asked s)) ≡ true
+
+-- and so is the world behind a public start that answers 0 and any row of public steps, each by its bytes
+unfoldable pub steppedAll : World → List (List ℕ) → World
+steppedAll w [] = w
+steppedAll w (s ∷ l) = steppedAll (stepped w s .world) l
+
+abbrev pub RowSound : Type 0
+RowSound = (n faulty : ℕ) (l : List (List ℕ)) → startOf n faulty .number ≡ 0 → sound (steppedAll (startOf n faulty .world) l) ≡ true
