@@ -1,10 +1,10 @@
 -- An arrive step's boxes fit. Assumes nothing.
-use mathlib.Core.Path.{_≡_, refl, sym, ap, _∙_}
-use mathlib.Core.Bool.{Bool, true, false, not, _||_}
+use mathlib.Core.Path.{_≡_, refl, ap}
+use mathlib.Core.Bool.{true, not, _||_}
 use mathlib.Core.List.{List}
-use Prim.Native.Nat.{ℕ, _+_, _<_, _≤_}
+use Prim.Native.Nat.{ℕ, _<_, _≤_}
 use native.Mathlib.Omega.{arith}
-use lib.ListN.{length, getD}
+use lib.ListN.{length}
 use Rattle.search.specs.Search.{isFound}
 use Rattle.world.specs.declared.roster.Roster.{Roster}
 use Rattle.world.specs.declared.execution.Executions.{Executions}
@@ -12,16 +12,13 @@ use Rattle.world.specs.declared.outgoing.Outgoing.{Outgoing}
 use Rattle.world.specs.declared.outgoing.Packet.{Packet}
 use Rattle.world.specs.Sizes.{outgoingPlaces}
 use Rattle.world.specs.Roster.{member, faulty}
-use Rattle.world.specs.Outgoing.{freePacket, packetAt, cleared}
+use Rattle.world.specs.Outgoing.{freePacket, packetAt}
 use Rattle.world.specs.Hold.{entryOf, holding, vacancy}
 use Rattle.world.proofs.Lists.{getD-out}
-use Rattle.soundness.specs.Names.{names}
-use Rattle.soundness.specs.Sound.{packetSound, stageSound}
 use Rattle.rules.specs.declared.boxes.Boxes.{Boxes}
 use Rattle.rules.specs.declared.boxes.Stepped.{Stepped}
 use Rattle.rules.specs.Rules.{arriveOf}
-use Rattle.kept.proofs.Every.{apart, either, less?, musts, and2, and3}
-use Rattle.kept.proofs.Facts.{Packets, entry-in}
+use Rattle.kept.proofs.Every.{apart, either, less?, musts}
 use Rattle.kept.proofs.Places.{first-entry, entry-kept, packet-out, packet-cleared}
 use Rattle.kept.proofs.Putting.{Fits, Keeps, with-hold, with-outgoing}
 

@@ -1,9 +1,8 @@
 -- The boxes of a forged send and of a forged receive fit. Assumes nothing.
-use mathlib.Core.Path.{_≡_, refl, sym, ap, _∙_}
-use mathlib.Core.Bool.{Bool, true, false, not, _&&_}
+use mathlib.Core.Path.{_≡_, refl, sym}
+use mathlib.Core.Bool.{true, not, _&&_}
 use mathlib.Core.List.{List}
-use Prim.Native.Nat.{ℕ, _+_, _<_, _≤_}
-use native.Mathlib.Omega.{arith}
+use Prim.Native.Nat.{ℕ, _<_}
 use lib.Dec.{ltb}
 use lib.ListN.{length}
 use borrow.Author.Tests.{ltb-true}
@@ -14,7 +13,7 @@ use Rattle.world.specs.declared.roster.Roster.{Roster}
 use Rattle.world.specs.declared.execution.Executions.{Executions}
 use Rattle.world.specs.Sizes.{servers, executionsMost}
 use Rattle.world.specs.Masks.{has}
-use Rattle.world.specs.Roster.{member, faulty, correct}
+use Rattle.world.specs.Roster.{member, faulty}
 use Rattle.world.specs.Requests.{sameDigest}
 use Rattle.world.specs.Executions.{executionAt, executionOf}
 use Rattle.rules.specs.declared.boxes.Boxes.{Boxes}

@@ -1,8 +1,8 @@
 -- A deliver step's boxes fit. Assumes nothing.
-use mathlib.Core.Path.{_≡_, refl, sym, ap, _∙_}
-use mathlib.Core.Bool.{Bool, true, false, not}
+use mathlib.Core.Path.{_≡_, refl, sym}
+use mathlib.Core.Bool.{true, not}
 use mathlib.Core.List.{List}
-use Prim.Native.Nat.{ℕ, _+_, _<_, _≤_}
+use Prim.Native.Nat.{ℕ, _≤_}
 use native.Mathlib.Omega.{arith}
 use lib.Dec.{eqb, leb}
 use borrow.Author.Tests.{eqb-true, leb-true}
@@ -14,14 +14,14 @@ use Rattle.world.specs.declared.execution.Executions.{Executions}
 use Rattle.world.specs.declared.hold.Entry.{Entry}
 use Rattle.world.specs.Sizes.{holdPlaces}
 use Rattle.world.specs.Roster.{member, faulty}
-use Rattle.world.specs.Hold.{entryAt, isReady, readyPlace, freed}
-use Rattle.world.specs.Delivered.{nextOf, appended}
+use Rattle.world.specs.Hold.{entryAt, readyPlace}
+use Rattle.world.specs.Delivered.{nextOf}
 use Rattle.soundness.specs.Sound.{stageSound}
 use Rattle.rules.specs.declared.boxes.Boxes.{Boxes}
 use Rattle.rules.specs.declared.boxes.Stepped.{Stepped}
 use Rattle.rules.specs.Rules.{deliverFound, deliverOf}
 use Rattle.kept.proofs.Every.{musts, and2, and-both, found-at}
-use Rattle.kept.proofs.Facts.{Held, entry-out}
+use Rattle.kept.proofs.Facts.{entry-out}
 use Rattle.kept.proofs.Places.{entry-freed, item-appended}
 use Rattle.kept.proofs.Putting.{Fits, Keeps, with-hold, with-delivered}
 

@@ -1,7 +1,7 @@
 -- Soundness as facts: a record for each kind of box, and one for the whole world. Assumes nothing.
-use mathlib.Core.Path.{_≡_, refl, sym, ap, subst, _∙_}
+use mathlib.Core.Path.{_≡_}
 use mathlib.Core.Logic.{_≢_}
-use mathlib.Core.Bool.{Bool, true, false, cond, not, _&&_, _||_}
+use mathlib.Core.Bool.{true, _||_}
 use mathlib.Core.List.{List, []}
 use Prim.Native.Nat.{ℕ, _+_, _*_, _/_, _%_, _<_, _≤_}
 use native.Mathlib.Omega.{arith}
@@ -9,28 +9,25 @@ use lib.Count.{ones}
 use lib.Dec.{eqb, ltb, leb}
 use lib.ListN.{length, getD, set}
 use lib.Seq.{getD-set-same, getD-set-other}
-use borrow.Author.Tests.{eq-eqb, eqb-true, eqb-false, ne-eqb, leb-true, le-leb, ltb-true, lt-ltb}
+use borrow.Author.Tests.{eq-eqb, eqb-true, ne-eqb, leb-true, le-leb, ltb-true, lt-ltb}
 use Rattle.search.specs.Search.{isFound, every, count}
 use Rattle.digest.specs.Digest.{digestBytes}
 use Rattle.world.specs.declared.World.{World}
 use Rattle.world.specs.declared.roster.Roster.{Roster}
-use Rattle.world.specs.declared.request.Request.{Request}
 use Rattle.world.specs.declared.request.Requests.{Requests}
 use Rattle.world.specs.declared.execution.Execution.{Execution}
 use Rattle.world.specs.declared.execution.Executions.{Executions}
 use Rattle.world.specs.declared.outgoing.Outgoing.{Outgoing}
-use Rattle.world.specs.declared.outgoing.Packet.{Packet}
 use Rattle.world.specs.declared.hold.Entry.{Entry}
 use Rattle.world.specs.declared.hold.Hold.{Hold}
-use Rattle.world.specs.declared.delivered.Item.{Item}
 use Rattle.world.specs.declared.delivered.Delivered.{Delivered}
 use Rattle.world.specs.Sizes.{servers, requestsMost, executionsMost, outgoingPlaces, holdPlaces, deliveredMost}
-use Rattle.world.specs.Roster.{member, correct, threshold, strays, goodRoster}
+use Rattle.world.specs.Roster.{member, correct, threshold, goodRoster}
 use Rattle.world.specs.Requests.{requestAt}
-use Rattle.world.specs.Executions.{executionAt, executionOf}
+use Rattle.world.specs.Executions.{executionAt}
 use Rattle.world.specs.Outgoing.{packetAt}
 use Rattle.world.specs.Hold.{entryAt}
-use Rattle.world.specs.Boxes.{seat, executionsOf, outgoingOf, holdOf, deliveredOf, itemAt}
+use Rattle.world.specs.Boxes.{executionsOf, outgoingOf, holdOf, deliveredOf, itemAt}
 use Rattle.soundness.specs.Zeros.{zeroBytes}
 use Rattle.soundness.specs.Names.{names, tableOf, ownExecution}
 use Rattle.soundness.specs.Sound.{implies, slotSound, newDigest, requestsSound, masksSound, orderSound, executionSound, placeSound, newId, executionsSound, numberAt, numbersSound, packetSound, outgoingSound, stageSound, entrySound, holdSound, itemSound, deliveredSound, serverSound, serversSound, sound}

@@ -1,13 +1,12 @@
 -- A box stays sound where more requests are stored, more numbers are given and more executions are made. Assumes nothing.
-use mathlib.Core.Path.{_≡_, refl, sym, ap, _∙_}
-use mathlib.Core.Logic.{_≢_}
+use mathlib.Core.Path.{_≡_, refl, _∙_}
 use mathlib.Core.Bool.{Bool, true, false, cond}
 use mathlib.Core.List.{List}
-use Prim.Native.Nat.{ℕ, _+_, _<_, _≤_}
+use Prim.Native.Nat.{ℕ, _≤_}
 use native.Mathlib.Omega.{arith}
 use lib.Count.{ones}
 use lib.Dec.{eqb, ltb, leb}
-use borrow.Author.Tests.{eqb-true, eqb-false, leb-true, le-leb, ltb-true, lt-ltb}
+use borrow.Author.Tests.{eqb-false, leb-true, le-leb, ltb-true, lt-ltb}
 use Rattle.search.specs.declared.Found.{Found}
 use Rattle.search.specs.declared.Found.the-variants.{Nothing}
 use Rattle.search.specs.Search.{isFound}
@@ -27,7 +26,7 @@ use Rattle.world.specs.Hold.{entryAt}
 use Rattle.soundness.specs.Names.{names, tableOf}
 use Rattle.soundness.specs.Sound.{orderSound, placeSound, packetSound, stageSound, entrySound, itemSound}
 use Rattle.kept.proofs.Every.{test, and2, and3, and-both}
-use Rattle.kept.proofs.Facts.{Table, Made, Packets, Entries, Held, Items, place-in, place-out, entry-in, entry-out}
+use Rattle.kept.proofs.Facts.{Table, Made, Packets, Entries, Items, place-in, place-out, entry-in, entry-out}
 
 slot-more : (slot stored more : ℕ) → stored ≤ more → ltb slot stored ≡ true → ltb slot more ≡ true
 slot-more slot stored more h e = lt-ltb slot more (omega (arith, ltb-true slot stored e))

@@ -1,16 +1,15 @@
 -- The orderer: an execution made and a call recorded leave boxes that fit. Assumes nothing.
 use mathlib.Core.Path.{_≡_, refl, sym, ap, _∙_}
-use mathlib.Core.Logic.{_⊎_, inl, inr, _≢_}
-use mathlib.Core.Bool.{Bool, true, false, cond, not, _&&_}
+use mathlib.Core.Logic.{_≢_}
+use mathlib.Core.Bool.{true, false, not, _&&_}
 use mathlib.Core.List.{List}
 use Prim.Native.Nat.{ℕ, _+_, _*_, _/_, _%_, _<_, _≤_}
 use native.Mathlib.Omega.{arith}
 use lib.Dec.{eqb, ltb}
 use lib.ListN.{length, getD, set, length-set}
 use lib.Seq.{getD-set-same, getD-set-other}
-use borrow.Author.Tests.{eq-eqb, ne-eqb, eqb-true, eqb-false, ltb-true, ltb-false, lt-ltb, le-ltb}
-use Rattle.search.specs.declared.Found.{Found}
-use Rattle.search.specs.declared.Found.the-variants.{At, Nothing}
+use borrow.Author.Tests.{eq-eqb, ne-eqb, eqb-true, eqb-false, ltb-true, lt-ltb, le-ltb}
+use Rattle.search.specs.declared.Found.the-variants.{At}
 use Rattle.search.specs.Search.{isFound}
 use Rattle.search.proofs.Laws.{found-in}
 use Rattle.digest.specs.Digest.{digestBytes}
@@ -22,7 +21,7 @@ use Rattle.world.specs.Sizes.{servers, executionsMost}
 use Rattle.world.specs.Roster.{member, correct}
 use Rattle.world.specs.Executions.{noExecution, executionAt, executionOf, opened, called, ordered}
 use Rattle.soundness.specs.Zeros.{zeroBytes}
-use Rattle.soundness.specs.Sound.{masksSound, orderSound, placeSound, newId, numberAt}
+use Rattle.soundness.specs.Sound.{orderSound, placeSound, newId, numberAt}
 use Rattle.soundness.proofs.Seats.{seat-own}
 use Rattle.rules.specs.declared.boxes.Boxes.{Boxes}
 use Rattle.rules.specs.Rules.{withExecutions, made, recorded}

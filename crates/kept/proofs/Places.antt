@@ -1,16 +1,16 @@
 -- What a change at one place does to sound boxes: an entry, a packet or an item put there. Assumes nothing.
 use mathlib.Core.Path.{_≡_, refl, sym, ap, _∙_}
 use mathlib.Core.Logic.{_≢_}
-use mathlib.Core.Bool.{Bool, true, false, cond, not, _&&_}
+use mathlib.Core.Bool.{true, not}
 use mathlib.Core.List.{List}
 use Prim.Native.Nat.{ℕ, zero, suc, _+_, _<_, _≤_}
 use native.Mathlib.Omega.{arith}
 use lib.Dec.{eqb, ltb}
-use lib.ListN.{length, set, length-set}
-use borrow.Author.Tests.{eqb-true, le-leb, ltb-true, ltb-false, lt-ltb, le-ltb}
+use lib.ListN.{length, length-set}
+use borrow.Author.Tests.{le-leb, ltb-true, ltb-false, lt-ltb, le-ltb}
 use Rattle.search.specs.declared.Found.{Found}
 use Rattle.search.specs.declared.Found.the-variants.{At, Nothing}
-use Rattle.search.specs.Search.{first, isFound}
+use Rattle.search.specs.Search.{isFound}
 use Rattle.search.proofs.Laws.{found-in}
 use Rattle.world.specs.declared.roster.Roster.{Roster}
 use Rattle.world.specs.declared.execution.Executions.{Executions}
@@ -24,7 +24,7 @@ use Rattle.world.specs.declared.delivered.Delivered.{Delivered}
 use Rattle.world.specs.Sizes.{servers, outgoingPlaces, holdPlaces, deliveredMost}
 use Rattle.world.specs.Masks.{has}
 use Rattle.world.specs.Roster.{member}
-use Rattle.world.specs.Outgoing.{freePacket, packetFor, packetAt, isFree, freePlace, putPacket, cleared, postedAt, posted, recipient, sentBelow, sent}
+use Rattle.world.specs.Outgoing.{freePacket, packetFor, freePlace, putPacket, cleared, postedAt, posted, recipient, sentBelow, sent}
 use Rattle.world.specs.Hold.{entryOf, freeEntry, entryAt, vacancy, put, freed, keptAt, kept}
 use Rattle.world.specs.Delivered.{unusedItem, nextOf, appended}
 use Rattle.world.proofs.Lists.{getD-out}

@@ -1,11 +1,11 @@
 -- The boxes of a propose step and of a settle step fit. Assumes nothing.
 use mathlib.Core.Path.{_≡_, refl, sym, ap, subst, _∙_}
 use mathlib.Core.Logic.{_≢_}
-use mathlib.Core.Bool.{Bool, true, false, not, _&&_}
+use mathlib.Core.Bool.{true, not}
 use mathlib.Core.List.{List}
-use Prim.Native.Nat.{ℕ, _+_, _<_, _≤_}
+use Prim.Native.Nat.{ℕ, _<_, _≤_}
 use native.Mathlib.Omega.{arith}
-use lib.Dec.{eqb, ltb, leb}
+use lib.Dec.{eqb, leb}
 use lib.ListN.{length, getD, set}
 use lib.Seq.{getD-set-same}
 use borrow.Author.Tests.{ltb-true, lt-ltb, eqb-true, eqb-false}
@@ -15,7 +15,7 @@ use Rattle.search.specs.Search.{isFound}
 use Rattle.world.specs.declared.roster.Roster.{Roster}
 use Rattle.world.specs.declared.execution.Executions.{Executions}
 use Rattle.world.specs.declared.hold.Entry.{Entry}
-use Rattle.world.specs.Sizes.{servers, executionsMost, holdPlaces}
+use Rattle.world.specs.Sizes.{servers, holdPlaces}
 use Rattle.world.specs.Masks.{has}
 use Rattle.world.specs.Roster.{member, faulty}
 use Rattle.world.specs.Requests.{sameDigest}
@@ -23,13 +23,12 @@ use Rattle.world.specs.Executions.{executionAt, executionOf}
 use Rattle.world.specs.Outgoing.{needed, freePlaces}
 use Rattle.world.specs.Hold.{entryOf, entryAt}
 use Rattle.world.specs.Boxes.{seat}
-use Rattle.soundness.specs.Names.{names, tableOf, ownExecution}
-use Rattle.soundness.specs.Sound.{entrySound}
+use Rattle.soundness.specs.Names.{tableOf, ownExecution}
 use Rattle.soundness.proofs.Seats.{seat-own}
 use Rattle.rules.specs.declared.boxes.Boxes.{Boxes}
 use Rattle.rules.specs.declared.boxes.Stepped.{Stepped}
 use Rattle.rules.specs.Rules.{raised, droppedAt, proposeTo, proposeFound, proposeOf, settleTo, settleFound, settleOf}
-use Rattle.kept.proofs.Every.{musts, and2, and-both, not-out}
+use Rattle.kept.proofs.Every.{musts, and-both, not-out}
 use Rattle.kept.proofs.Facts.{noTable, Held, entry-out, place-out, order-low}
 use Rattle.kept.proofs.Places.{second-entry, third-entry, entry-within, entry-put, entry-freed, packets-sent}
 use Rattle.kept.proofs.Ordering.{found-made, recorded-fits}

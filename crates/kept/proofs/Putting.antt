@@ -1,9 +1,8 @@
 -- Boxes that fit a world, and the world with them put back. Assumes nothing.
-use mathlib.Core.Path.{_≡_, refl, sym, ap, _∙_}
+use mathlib.Core.Path.{_≡_, refl, _∙_}
 use mathlib.Core.Logic.{_≢_}
-use mathlib.Core.Bool.{Bool, true, false, cond}
 use mathlib.Core.List.{List}
-use Prim.Native.Nat.{ℕ, _+_, _*_, _<_, _≤_}
+use Prim.Native.Nat.{ℕ, _*_, _<_, _≤_}
 use native.Mathlib.Omega.{arith}
 use lib.ListN.{length, getD, set, length-set}
 use lib.Seq.{set-getD}
@@ -17,14 +16,13 @@ use Rattle.world.specs.Sizes.{servers, executionsMost}
 use Rattle.world.specs.Boxes.{seat}
 use Rattle.soundness.specs.Names.{tableOf}
 use Rattle.soundness.specs.Sound.{numberAt}
-use Rattle.soundness.proofs.Seats.{seat-own, seated}
 use Rattle.rules.specs.declared.boxes.Boxes.{Boxes}
 use Rattle.rules.specs.declared.boxes.Stepped.{Stepped}
 use Rattle.rules.specs.Rules.{withHold, withOutgoing, withDelivered}
 use Rattle.rehearsal.specs.declared.boxing.Touch.{Touch}
 use Rattle.rehearsal.specs.Steps.{boxesOf, putBack}
 use Rattle.kept.proofs.Counts.{Numbers}
-use Rattle.kept.proofs.Facts.{noTable, noPackets, noEntries, noItems, set-cases, Table, Packets, Entries, Items, Facts, FactsOf}
+use Rattle.kept.proofs.Facts.{noTable, noPackets, noEntries, noItems, set-cases, Table, Packets, Entries, Items, FactsOf}
 use Rattle.kept.proofs.More.{Grows, table-more, entries-more, items-more}
 
 -- boxes that may stand in the place of those of a server, a holder and a sender, in a world of these tables

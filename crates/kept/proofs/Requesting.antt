@@ -1,14 +1,13 @@
 -- A request step keeps a world sound. Assumes nothing.
-use mathlib.Core.Path.{_≡_, refl, sym, ap, _∙_}
+use mathlib.Core.Path.{_≡_, refl, _∙_}
 use mathlib.Core.Logic.{_≢_}
-use mathlib.Core.Bool.{Bool, true, false, not}
+use mathlib.Core.Bool.{true, false, not}
 use mathlib.Core.List.{List}
 use Prim.Native.Nat.{ℕ, _+_, _<_, _≤_}
 use native.Mathlib.Omega.{arith}
 use lib.Dec.{eqb, ltb}
 use lib.ListN.{getD, set, length-set}
 use borrow.Author.Tests.{eq-eqb, ltb-true, ltb-false, lt-ltb, le-ltb}
-use Rattle.digest.specs.Sha256.{digestOf}
 use Rattle.digest.specs.Digest.{digestBytes}
 use Rattle.world.specs.declared.World.{World}
 use Rattle.world.specs.declared.roster.Roster.{Roster}
@@ -17,15 +16,12 @@ use Rattle.world.specs.declared.request.Requests.{Requests}
 use Rattle.world.specs.Sizes.{requestsMost}
 use Rattle.world.specs.Roster.{strays}
 use Rattle.world.specs.Requests.{noRequest, requestAt, requestBytes, sameDigest, knownDigest}
-use Rattle.rules.specs.declared.answer.Answer.{Answer}
-use Rattle.rules.specs.declared.answer.Answer.the-variants.{Done, BadField, SameDigest, NoRoom}
 use Rattle.rules.specs.declared.storing.Requested.{Requested}
-use Rattle.rules.specs.Rules.{storedWith, requestFrom, requestOf}
-use Rattle.search.specs.Tests.{must}
+use Rattle.rules.specs.Rules.{requestFrom, requestOf}
 use Rattle.soundness.specs.Sound.{storedSound, slotSound, newDigest}
 use Rattle.rehearsal.specs.Steps.{withRequests}
 use Rattle.kept.proofs.Every.{test, musts, and-both, not-in, not-out, any-none, every-at, every-all}
-use Rattle.kept.proofs.Facts.{set-cases, Stored, Facts, FactsOf}
+use Rattle.kept.proofs.Facts.{set-cases, Stored, FactsOf}
 use Rattle.kept.proofs.More.{packets-more, entries-more, items-more}
 
 same-digest : (d : List ℕ) → sameDigest d d ≡ true

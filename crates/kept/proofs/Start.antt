@@ -1,13 +1,12 @@
 -- A start gives a sound world: every place is free. Assumes nothing.
-use mathlib.Core.Path.{_≡_, refl, sym, ap, _∙_}
+use mathlib.Core.Path.{_≡_, refl}
 use mathlib.Core.Bool.{true}
 use mathlib.Core.List.{List}
-use Prim.Native.Nat.{ℕ, _+_, _<_}
+use Prim.Native.Nat.{ℕ, _<_}
 use native.Mathlib.Omega.{arith}
-use lib.ListN.{length, getD, replicate, length-replicate, getD-replicate}
+use lib.ListN.{getD, replicate, length-replicate, getD-replicate}
 use borrow.Author.Tests.{le-ltb}
 use Rattle.search.specs.Search.{firstFrom}
-use Rattle.world.specs.declared.World.{World}
 use Rattle.world.specs.declared.roster.Roster.{Roster}
 use Rattle.world.specs.declared.execution.Executions.{Executions}
 use Rattle.world.specs.Sizes.{servers, requestsMost, executionsMost, outgoingPlaces, holdPlaces, deliveredMost}
@@ -20,9 +19,8 @@ use Rattle.world.specs.Delivered.{freshDelivered, unusedItem}
 use Rattle.world.specs.Fresh.{freshWorld}
 use Rattle.soundness.specs.Zeros.{zeroBytes}
 use Rattle.soundness.specs.Sound.{slotSound, placeSound, numbersSound, packetSound, entrySound, itemSound}
-use Rattle.kept.specs.Kept.{Shaped}
 use Rattle.kept.proofs.Every.{or-right}
-use Rattle.kept.proofs.Facts.{noTable, noPackets, noEntries, noItems, Stored, Table, Packets, Entries, Items, Facts, FactsOf, numbers-out, world-in, world-shaped}
+use Rattle.kept.proofs.Facts.{noTable, noPackets, noEntries, noItems, Stored, Table, Packets, Entries, Items, FactsOf, numbers-out}
 
 module _ (r : Roster) where
   fresh-stored : Stored r freshRequests

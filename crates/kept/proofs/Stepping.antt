@@ -1,17 +1,17 @@
 -- Start gives sound worlds and steps keep them so; so runs and rows of steps end in one. Assumes nothing.
-use mathlib.Core.Path.{_≡_, refl, sym, ap, _∙_}
-use mathlib.Core.Bool.{Bool, true, false}
+use mathlib.Core.Path.{_≡_, refl}
+use mathlib.Core.Bool.{true}
 use mathlib.Core.List.{List, [], _∷_}
 use Prim.Native.Nat.{ℕ, _-_, _+_, _<_, _≤_}
 use native.Mathlib.Omega.{arith}
 use lib.Count.{ones}
-use lib.Dec.{ltb, leb}
+use lib.Dec.{leb}
 use lib.ListN.{length}
 use borrow.Author.Tests.{ltb-true, leb-true}
 use Rattle.world.specs.declared.World.{World}
 use Rattle.world.specs.declared.roster.Roster.{Roster}
 use Rattle.world.specs.Sizes.{servers}
-use Rattle.world.specs.Roster.{member, strays, faults, goodRoster}
+use Rattle.world.specs.Roster.{member, faults, goodRoster}
 use Rattle.world.specs.Fresh.{freshWorld}
 use Rattle.world.specs.Outgoing.{packetAt}
 use Rattle.world.specs.Hold.{entryAt}
@@ -28,15 +28,14 @@ use Rattle.schedule.specs.declared.scanning.Verdict.the-variants.{Accepted, Ref
 use Rattle.schedule.specs.Fields.{byteAt}
 use Rattle.schedule.specs.Records.{Asked, Request, Multicast, Arrive, Propose, Settle, Deliver, ForgePacket, ForgeSend, ForgeReceive, formOf, readAt, asked}
 use Rattle.schedule.specs.Judging.{scheduleMost, scanned, startJudged, recordsJudged, judged}
-use Rattle.rehearsal.specs.declared.boxing.Touch.{Touch}
 use Rattle.rehearsal.specs.declared.stepping.Taken.{Taken}
 use Rattle.rehearsal.specs.Steps.{touch, boxesOf, putBack, stepOf, worldAfter}
 use Rattle.rehearsal.specs.Runs.{startOf, steppedBy, stepped, startWorld}
-use Rattle.kept.specs.Kept.{Shaped, Good, StartGives, StepsKeep, RunSound, steppedAll, RowSound}
-use Rattle.kept.proofs.Every.{musts, and4, not-out}
-use Rattle.kept.proofs.Facts.{Facts, FactsOf, world-out, world-in, world-shaped}
+use Rattle.kept.specs.Kept.{Good, StartGives, StepsKeep, RunSound, steppedAll, RowSound}
+use Rattle.kept.proofs.Every.{musts, and4}
+use Rattle.kept.proofs.Facts.{FactsOf, world-out, world-in, world-shaped}
 use Rattle.kept.proofs.Start.{start-facts}
-use Rattle.kept.proofs.Putting.{Fits, Keeps, boxes-fit, put-facts}
+use Rattle.kept.proofs.Putting.{Fits, boxes-fit, put-facts}
 use Rattle.kept.proofs.Requesting.{request-facts}
 use Rattle.kept.proofs.Delivering.{deliver-keeps}
 use Rattle.kept.proofs.Arriving.{arrive-keeps}
