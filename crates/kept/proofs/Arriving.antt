@@ -1,35 +1,25 @@
 -- An arrive step's boxes fit. Assumes nothing.
-use mathlib.Core.Path.{_≡_, refl, ap}
-use mathlib.Core.Bool.{true, not, _||_}
+use mathlib.Core.Path.{_≡_, refl}
+use mathlib.Core.Bool.{true, false, not, _||_}
 use mathlib.Core.List.{List}
-use Prim.Native.Nat.{ℕ, _<_, _≤_}
-use native.Mathlib.Omega.{arith}
-use lib.ListN.{length}
+use Prim.Native.Nat.{ℕ}
 use Rattle.search.specs.Search.{isFound}
 use Rattle.world.specs.declared.roster.Roster.{Roster}
 use Rattle.world.specs.declared.execution.Executions.{Executions}
-use Rattle.world.specs.declared.outgoing.Outgoing.{Outgoing}
 use Rattle.world.specs.declared.outgoing.Packet.{Packet}
 use Rattle.world.specs.Sizes.{outgoingPlaces}
 use Rattle.world.specs.Roster.{member, faulty}
 use Rattle.world.specs.Outgoing.{freePacket, packetAt}
 use Rattle.world.specs.Hold.{entryOf, holding, vacancy}
-use Rattle.world.proofs.Lists.{getD-out}
 use Rattle.rules.specs.declared.boxes.Boxes.{Boxes}
 use Rattle.rules.specs.declared.boxes.Stepped.{Stepped}
 use Rattle.rules.specs.Rules.{arriveOf}
-use Rattle.kept.proofs.Every.{apart, either, less?, musts}
+use Rattle.kept.proofs.Every.{apart, musts}
+use Rattle.kept.proofs.Facts.{inside}
 use Rattle.kept.proofs.Places.{first-entry, entry-kept, packet-out, packet-cleared}
 use Rattle.kept.proofs.Putting.{Fits, Keeps, with-hold, with-outgoing}
 
--- past the places there is no packet
-pub packet-in : (o : Outgoing) (k n : ℕ) → n ≡ outgoingPlaces → length (o .places) ≡ n → packetAt o k .there ≡ true → k < outgoingPlaces
-packet-in o k n d l e =
-    either (less? k outgoingPlaces)
-    (λ (h : k < outgoingPlaces). h)
-    (λ (h : outgoingPlaces ≤ k). apart (packetAt o k .there) e (ap (λ (p : Packet). p .there) (getD-out (o .places) k freePacket (omega arith))))
-
-module _ (r : Roster) (stored m : ℕ) (ts : List Executions) (s h x : ℕ) (b : Boxes) (f : Fits r stored m ts s h x b) where
+module _ {r : Roster} {stored m : ℕ} {ts : List Executions} {s h x : ℕ} {b : Boxes} (f : Fits r stored m ts s h x b) where
   pub arrive-keeps : (origin place : ℕ) → (member r (packetAt (b .outgoing) place .to) ≡ true → h ≡ packetAt (b .outgoing) place .to)
       → Keeps r stored m ts s h x (arriveOf r origin place b)
   unfolding arriveOf
@@ -38,11 +28,11 @@ module _ (r : Roster) (stored m : ℕ) (ts : List Executions) (s h x : ℕ) (b :
       let p = packetAt (b .outgoing) place in
       musts P (member r origin) _ _ f λ _.
       musts P (p .there) _ _ f λ there.
-      let l = packet-in (b .outgoing) place outgoingPlaces refl (f .packets .size) there in
+      let l = inside (λ (p : Packet). p .there ≡ true) (b .outgoing .places) place outgoingPlaces freePacket (f .packets .size) there (λ z. apart false z refl) in
       let k = packet-out r stored s p there (f .packets .places place l) in
-      let rest = with-outgoing f _ (packet-cleared r stored s (b .outgoing) (f .packets) place l) in
+      let rest = with-outgoing f _ (packet-cleared (f .packets) place l) in
       musts P (not (faulty r (p .to) || holding (b .hold) (p .sender) (p .id) (p .slot))) _ _ rest λ _.
       musts P (isFound (vacancy (b .hold))) _ _ f λ _.
       with-hold rest _
-      (entry-kept r stored (b .numbered) _ h (b .hold) (f .entries) (entryOf 1 (p .sender) (p .id) (p .slot) 0)
+      (entry-kept (f .entries) (entryOf 1 (p .sender) (p .id) (p .slot) 0)
       (first-entry r stored (b .numbered) h _ (rw (at (k .1)) (k .1)) (p .sender) (p .id) (p .slot) (k .2)))

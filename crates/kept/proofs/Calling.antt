@@ -23,11 +23,11 @@ use Rattle.kept.proofs.Every.{apart, musts, and2, not-out}
 use Rattle.kept.proofs.Ordering.{found-made, not-found, made-fits, recorded-fits}
 use Rattle.kept.proofs.Putting.{Fits, Keeps}
 
-module _ (r : Roster) (stored m : ℕ) (ts : List Executions) (all : length ts ≡ servers) where
-  pub forge-send-keeps : (s h : ℕ) (b : Boxes) → s < servers → Fits r stored m ts s h s b → (server id : ℕ) (digest : List ℕ)
+module _ {r : Roster} {stored m : ℕ} {ts : List Executions} (all : length ts ≡ servers) where
+  pub forge-send-keeps : {s h : ℕ} {b : Boxes} → s < servers → Fits r stored m ts s h s b → (server id : ℕ) (digest : List ℕ)
       → (member r server ≡ true → s ≡ server) → Keeps r stored m ts s h s (forgeSendOf r server id digest b)
   unfolding forgeSendOf
-  forge-send-keeps s h b seated f server id digest at =
+  forge-send-keeps {s} {h} {b} seated f server id digest at =
       let P : Stepped → Type 0 = Keeps r stored m ts s h s in
       musts P (member r server) _ _ f λ mine.
       musts P (faulty r server) _ _ f λ bad.
@@ -35,11 +35,11 @@ module _ (r : Roster) (stored m : ℕ) (ts : List Executions) (all : length ts �
       musts P (ltb (b .executions .count) executionsMost) _ _ f λ room.
       let q = at mine in
       rw q
-      (made-fits r stored m ts server h server b (rw q at f) all (rw q at seated) mine id digest (ltb-true (b .executions .count) executionsMost room)
+      (made-fits (rw q at f) all (rw q at seated) mine id digest (ltb-true (b .executions .count) executionsMost room)
       (λ j l. not-found (b .executions) id j (not-out _ none) (f .table .most) l)
       (λ good. apart (faulty r server) bad (not-out (faulty r server) (and2 (member r server) (not (faulty r server)) good .1))))
 
-  module _ (s h x : ℕ) (b : Boxes) (seated : s < servers) (named : x < servers) (f : Fits r stored m ts s h x b) (server : ℕ) (at : member r server ≡ true → s ≡ server) where
+  module _ {s h x : ℕ} {b : Boxes} (seated : s < servers) (named : x < servers) (f : Fits r stored m ts s h x b) (server : ℕ) (at : member r server ≡ true → s ≡ server) where
     received : (digest : List ℕ) (id : ℕ) → member r server ≡ true → member r x ≡ true → (g : Found) → g ≡ executionOf (b .executions) id
         → Keeps r stored m ts s h x (forgeReceiveFound r server digest b g)
     unfolding forgeReceiveFound forgeReceiveTo
@@ -48,7 +48,7 @@ module _ (r : Roster) (stored m : ℕ) (ts : List Executions) (all : length ts �
         let y = executionAt (b .executions) k in
         musts P (not (has (y .called) server)) _ _ f λ _.
         musts P (sameDigest (y .digest) digest) _ _ f λ _.
-        recorded-fits r stored m ts s h x b f all named theirs server k (found-made (b .executions) id k (sym e)) (rw (at mine) at seated) mine
+        recorded-fits f all named theirs server k (found-made (b .executions) id k (sym e)) (rw (at mine) at seated) mine
     received digest id mine theirs Nothing e = f
 
     pub forge-receive-keeps : (sender id : ℕ) (digest : List ℕ) → (member r sender ≡ true → x ≡ sender)

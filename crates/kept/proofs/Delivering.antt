@@ -29,7 +29,7 @@ third-number : (m : ℕ) (e : Entry) → e .stage ≡ 3 → stageSound m e ≡ t
 unfolding stageSound
 third-number m e s p = leb-true (e .number) m (and2 (leb 1 (e .number)) (leb (e .number) m) (rw s at p) .1)
 
-module _ (r : Roster) (stored m : ℕ) (ts : List Executions) (s x : ℕ) (b : Boxes) (f : Fits r stored m ts s s x b) where
+module _ {r : Roster} {stored m : ℕ} {ts : List Executions} {s x : ℕ} {b : Boxes} (f : Fits r stored m ts s s x b) where
   delivered-at : member r s ≡ true → (g : Found) → g ≡ readyPlace (b .hold) (nextOf (b .delivered)) → Keeps r stored m ts s s x (deliverFound b g)
   unfolding deliverFound
   delivered-at mine (At k) q =
@@ -42,8 +42,8 @@ module _ (r : Roster) (stored m : ℕ) (ts : List Executions) (s x : ℕ) (b : B
       let le = third-number (b .numbered) e st (h .number) in
       let top = f .numbers .most in
       let done = f .items .most in
-      with-delivered (with-hold f _ (entry-freed r stored (b .numbered) _ s (b .hold) (f .entries) k l)) _
-      (item-appended r stored (b .numbered) s (b .delivered) _ (omega arith) (omega arith) mine (and-both (h .sender) (h .slot)) (f .items))
+      with-delivered (with-hold f _ (entry-freed (f .entries) k l)) _
+      (item-appended _ (omega arith) (omega arith) mine (and-both (h .sender) (h .slot)) (f .items))
   delivered-at mine Nothing q = f
 
   pub deliver-keeps : (server : ℕ) → (member r server ≡ true → s ≡ server) → Keeps r stored m ts s s x (deliverOf r server b)

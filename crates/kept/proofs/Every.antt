@@ -1,11 +1,11 @@
 -- What the Boolean tests of `sound` say: joined tests, searches, and tests at every place. Assumes nothing.
-use mathlib.Core.Path.{_≡_, refl, sym, ap}
+use mathlib.Core.Path.{_≡_, refl, sym, ap, _∙_}
 use mathlib.Core.Logic.{_⊎_, inl, inr, _≢_}
 use mathlib.Core.Bool.{Bool, true, false, cond, not, _&&_, _||_}
 use Prim.Native.Nat.{ℕ, zero, suc, _+_, _<_, _≤_}
 use native.Mathlib.Omega.{arith}
 use lib.Dec.{eqb, ltb}
-use borrow.Author.Tests.{eqb-true, eqb-false, ltb-true, ltb-false}
+use borrow.Author.Tests.{eqb-true, eqb-false, ltb-true, ltb-false, lt-ltb, le-ltb}
 use Rattle.search.specs.declared.Found.{Found}
 use Rattle.search.specs.declared.Found.the-variants.{At, Nothing}
 use Rattle.search.specs.Search.{firstFrom, first, isFound, any, every}
@@ -34,6 +34,13 @@ same? a b = either (cases (eqb a b)) (λ e. inl (eqb-true a b e)) (λ e. inr (eq
 
 pub less? : (a b : ℕ) → (a < b) ⊎ (b ≤ a)
 less? a b = either (cases (ltb a b)) (λ e. inl (ltb-true a b e)) (λ e. inr (ltb-false a b e))
+
+-- a place other than c lies on the same side of c and of c + 1
+pub sides-more : (j c : ℕ) → j ≢ c → ltb j c ≡ ltb j (c + 1)
+sides-more j c d =
+    either (less? j c)
+    (λ (l : j < c). lt-ltb j c l ∙ sym (lt-ltb j (c + 1) (omega arith)))
+    (λ (l : c ≤ j). le-ltb j c l ∙ sym (le-ltb j (c + 1) (omega arith)))
 
 -- joined tests
 and-left : (a b : Bool) → (a && b) ≡ true → a ≡ true

@@ -28,12 +28,13 @@ use Rattle.world.specs.Executions.{executionAt}
 use Rattle.world.specs.Outgoing.{packetAt}
 use Rattle.world.specs.Hold.{entryAt}
 use Rattle.world.specs.Boxes.{executionsOf, outgoingOf, holdOf, deliveredOf, itemAt}
+use Rattle.world.proofs.Lists.{getD-out}
 use Rattle.soundness.specs.Zeros.{zeroBytes}
 use Rattle.soundness.specs.Names.{names, tableOf, ownExecution}
 use Rattle.soundness.specs.Sound.{implies, slotSound, newDigest, requestsSound, masksSound, orderSound, executionSound, placeSound, newId, executionsSound, numberAt, numbersSound, packetSound, outgoingSound, stageSound, entrySound, holdSound, itemSound, deliveredSound, serverSound, serversSound, sound}
 use Rattle.soundness.proofs.Seats.{seat-own}
 use Rattle.kept.specs.Kept.{Shaped}
-use Rattle.kept.proofs.Every.{either, test, same?, and2, and3, and4, and5, and-both, implies-in, implies-out, every-at, every-all}
+use Rattle.kept.proofs.Every.{either, test, same?, less?, and2, and3, and4, and5, and-both, implies-in, implies-out, every-at, every-all}
 use Rattle.kept.proofs.Counts.{Numbers}
 
 -- what reads past the boxes give
@@ -56,6 +57,11 @@ set-cases P l i j a d h new old =
     (λ (e : j ≡ i). rw (e, getD-set-same l i a d h) (new e))
     (λ (e : j ≢ i). rw (getD-set-other l i j a d e) (old e))
 
+-- a place at which something stands that does not stand past the end lies in the list
+pub inside : {A : Type 0} (P : A → Type 0) (l : List A) (k n : ℕ) (d : A) → length l ≡ n → P (getD l k d) → (P d → ⊥) → k < n
+inside P l k n d e p never =
+    either (less? k n) (λ (h : k < n). h) (λ (h : n ≤ k). absurd (never (rw (getD-out l k d (omega arith)) at p)))
+
 -- requests
 pub record Stored (r : Roster) (q : Requests) : Type 0 where
   pub size : length (q .slots) ≡ requestsMost
@@ -69,9 +75,9 @@ stored-out r q l e =
     let a = and3 (leb (q .count) requestsMost) (every (λ (k : ℕ). slotSound r (q .count) k (requestAt q k)) requestsMost) (every (λ (k : ℕ). newDigest q k) (q .count)) e in
     record { size = l; most = leb-true (q .count) requestsMost (a .0); slots = every-at _ _ (a .1); new = every-at _ _ (a .2) }
 
-stored-in : (r : Roster) (q : Requests) → Stored r q → requestsSound r q ≡ true
+stored-in : {r : Roster} {q : Requests} → Stored r q → requestsSound r q ≡ true
 unfolding requestsSound
-stored-in r q s = and-both (and-both (le-leb _ _ (s .most)) (every-all _ _ (s .slots))) (every-all _ _ (s .new))
+stored-in s = and-both (and-both (le-leb _ _ (s .most)) (every-all _ _ (s .slots))) (every-all _ _ (s .new))
 
 -- the executions of one sender
 pub record Table (r : Roster) (m x : ℕ) (t : Executions) : Type 0 where
@@ -90,9 +96,9 @@ table-out r m x t l e =
     in
     record { size = l; most = leb-true (t .count) executionsMost (a .0); theirs = a .1; places = every-at _ _ (a .2); new = every-at _ _ (a .3) }
 
-table-in : (r : Roster) (m x : ℕ) (t : Executions) → Table r m x t → executionsSound r m x t ≡ true
+table-in : {r : Roster} {m x : ℕ} {t : Executions} → Table r m x t → executionsSound r m x t ≡ true
 unfolding executionsSound
-table-in r m x t s =
+table-in s =
     and-both (and-both (and-both (le-leb _ _ (s .most)) (s .theirs)) (every-all _ _ (s .places))) (every-all _ _ (s .new))
 
 -- an execution in use
@@ -156,9 +162,9 @@ packets-out : (r : Roster) (stored x : ℕ) (o : Outgoing) → length (o .places
 unfolding outgoingSound
 packets-out r stored x o l e = record { size = l; places = every-at _ _ e }
 
-packets-in : (r : Roster) (stored x : ℕ) (o : Outgoing) → Packets r stored x o → outgoingSound r stored x o ≡ true
+packets-in : {r : Roster} {stored x : ℕ} {o : Outgoing} → Packets r stored x o → outgoingSound r stored x o ≡ true
 unfolding outgoingSound
-packets-in r stored x o s = every-all _ _ (s .places)
+packets-in s = every-all _ _ (s .places)
 
 -- entries
 pub record Entries (r : Roster) (stored m : ℕ) (ts : List Executions) (x : ℕ) (h : Hold) : Type 0 where
@@ -170,9 +176,9 @@ entries-out : (r : Roster) (stored m : ℕ) (ts : List Executions) (x : ℕ) (h 
 unfolding holdSound
 entries-out r stored m ts x h l e = record { size = l; places = every-at _ _ e }
 
-entries-in : (r : Roster) (stored m : ℕ) (ts : List Executions) (x : ℕ) (h : Hold) → Entries r stored m ts x h → holdSound r stored m ts x h ≡ true
+entries-in : {r : Roster} {stored m : ℕ} {ts : List Executions} {x : ℕ} {h : Hold} → Entries r stored m ts x h → holdSound r stored m ts x h ≡ true
 unfolding holdSound
-entries-in r stored m ts x h s = every-all _ _ (s .places)
+entries-in s = every-all _ _ (s .places)
 
 -- an entry in use
 pub record Held (r : Roster) (stored m x : ℕ) (t : Executions) (e : Entry) : Type 0 where
@@ -226,9 +232,9 @@ items-out r stored m x d l e =
     in
     record { size = l; most = leb-true (d .count) m (a .0); theirs = a .1; places = every-at _ _ (a .2) }
 
-items-in : (r : Roster) (stored m x : ℕ) (d : Delivered) → Items r stored m x d → deliveredSound r stored m x d ≡ true
+items-in : {r : Roster} {stored m x : ℕ} {d : Delivered} → Items r stored m x d → deliveredSound r stored m x d ≡ true
 unfolding deliveredSound
-items-in r stored m x d s = and-both (and-both (le-leb _ _ (s .most)) (s .theirs)) (every-all _ _ (s .places))
+items-in s = and-both (and-both (le-leb _ _ (s .most)) (s .theirs)) (every-all _ _ (s .places))
 
 -- the whole world
 pub record Facts (r : Roster) (m : ℕ) (q : Requests) (ts : List Executions) (os : List Outgoing) (hs : List Hold) (ds : List Delivered) : Type 0 where
@@ -299,15 +305,15 @@ module _ (w : World) (f : FactsOf w) where
       rw (seat-own s h)
       (and-both
       (and-both
-      (and-both (table-in (w .roster) (w .numbered) s _ (f .tables s h)) (packets-in (w .roster) (w .requests .count) s _ (f .packets s h)))
-      (entries-in (w .roster) (w .requests .count) (w .numbered) (w .executions) s _ (f .entries s h)))
-      (items-in (w .roster) (w .requests .count) (w .numbered) s _ (f .items s h)))
+      (and-both (table-in (f .tables s h)) (packets-in (f .packets s h)))
+      (entries-in (f .entries s h)))
+      (items-in (f .items s h)))
 
   pub world-in : sound w ≡ true
   unfolding sound serversSound
   world-in =
       and-both
-      (and-both (and-both (f .roster) (stored-in (w .roster) (w .requests) (f .requests))) (numbers-in (w .numbered) (w .executions) (f .numbers)))
+      (and-both (and-both (f .roster) (stored-in (f .requests))) (numbers-in (w .numbered) (w .executions) (f .numbers)))
       (every-all _ _ server-in)
 
   pub world-shaped : Shaped w

@@ -7,6 +7,7 @@ use lib.Dec.{ltb}
 use Rattle.search.specs.Search.{isFound}
 use Rattle.world.specs.declared.roster.Roster.{Roster}
 use Rattle.world.specs.declared.execution.Executions.{Executions}
+use Rattle.world.specs.declared.outgoing.Sending.{Sending}
 use Rattle.world.specs.Roster.{member, faulty}
 use Rattle.world.specs.Outgoing.{freePlace, packetFor}
 use Rattle.rules.specs.declared.boxes.Boxes.{Boxes}
@@ -16,7 +17,7 @@ use Rattle.kept.proofs.Every.{musts, and3, and-both}
 use Rattle.kept.proofs.Places.{packet-posted, sending-sound}
 use Rattle.kept.proofs.Putting.{Fits, Keeps, with-outgoing}
 
-module _ (r : Roster) (stored m : ℕ) (ts : List Executions) (s h x : ℕ) (b : Boxes) (f : Fits r stored m ts s h x b) where
+module _ {r : Roster} {stored m : ℕ} {ts : List Executions} {s h x : ℕ} {b : Boxes} (f : Fits r stored m ts s h x b) where
   pub forge-packet-keeps : (from to sender id slot : ℕ) → (member r from ≡ true → s ≡ from) → Keeps r stored m ts s h x (forgePacketOf r from to sender id slot b)
   unfolding forgePacketOf
   forge-packet-keeps from to sender id slot at =
@@ -26,6 +27,7 @@ module _ (r : Roster) (stored m : ℕ) (ts : List Executions) (s h x : ℕ) (b :
       musts P (ltb slot (b .stored)) _ _ f λ there.
       musts P (isFound (freePlace (b .outgoing))) _ _ f λ _.
       let k = and3 (member r from) (member r to) (member r sender) a in
+      let sending : Sending = record { id = id; sender = sender; slot = slot } in
       with-outgoing f _
-      (packet-posted r stored s (b .outgoing) (f .packets) (packetFor to (record { id = id; sender = sender; slot = slot }))
-      (sending-sound r stored s (rw (at (k .0)) (k .0)) (record { id = id; sender = sender; slot = slot }) (and-both (k .2) (rw (f .same) at there)) to (k .1)))
+      (packet-posted (f .packets) (packetFor to sending)
+      (sending-sound r stored s sending to (rw (at (k .0)) (k .0)) (and-both (k .2) (rw (f .same) at there)) (k .1)))

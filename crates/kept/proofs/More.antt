@@ -41,19 +41,19 @@ order-more r m n x h e =
     let l = leb-true (x .number) m (a .1) in
     rw z (and-both (a .0) (le-leb (x .number) n (omega arith))))
 
-made-more : (r : Roster) (m n s k : ℕ) (x : Execution) → m ≤ n → Made r m s k x → Made r n s k x
-made-more r m n s k x h f = record { masks = f .masks; order = order-more r m n x h (f .order); gapless = f .gapless }
+made-more : {r : Roster} {m n s k : ℕ} {x : Execution} → m ≤ n → Made r m s k x → Made r n s k x
+made-more {r} {m} {n} {x = x} h f = record { masks = f .masks; order = order-more r m n x h (f .order); gapless = f .gapless }
 
 -- with a greater M, and with another count that the place lies on the same side of
 pub place-more : (r : Roster) (m n s c d k : ℕ) (x : Execution) → m ≤ n → ltb k c ≡ ltb k d → placeSound r m s c k x ≡ true → placeSound r n s d k x ≡ true
 unfolding placeSound
 place-more r m n s c d k x h same e =
     test (ltb k d)
-    (λ z. place-in r n s d k x (ltb-true k d z) (made-more r m n s k x h (place-out r m s c k x (ltb-true k c (same ∙ z)) e)))
+    (λ z. place-in r n s d k x (ltb-true k d z) (made-more h (place-out r m s c k x (ltb-true k c (same ∙ z)) e)))
     (λ z. let y = same ∙ z in rw z (rw y at e))
 
-pub table-more : (r : Roster) (m n s : ℕ) (t : Executions) → m ≤ n → Table r m s t → Table r n s t
-table-more r m n s t h f =
+pub table-more : {r : Roster} {m n s : ℕ} {t : Executions} → m ≤ n → Table r m s t → Table r n s t
+table-more {r} {m} {n} {s} {t} h f =
     record {
       size = f .size;
       most = f .most;
@@ -72,8 +72,8 @@ packet-more r stored more x p h e =
     rw z (and-both (and-both (a .0) (a .1)) (and-both (b .0) (slot-more (p .slot) stored more h (b .1)))))
     (λ z. rw z (rw z at e))
 
-pub packets-more : (r : Roster) (stored more x : ℕ) (o : Outgoing) → stored ≤ more → Packets r stored x o → Packets r more x o
-packets-more r stored more x o h f = record { size = f .size; places = λ k p. packet-more r stored more x _ h (f .places k p) }
+pub packets-more : {r : Roster} {stored more x : ℕ} {o : Outgoing} → stored ≤ more → Packets r stored x o → Packets r more x o
+packets-more {r} {stored} {more} {x} h f = record { size = f .size; places = λ k p. packet-more r stored more x _ h (f .places k p) }
 
 -- no execution is lost
 abbrev pub Grows : Executions → Executions → Type 0
@@ -112,9 +112,9 @@ entry-more r stored more m n x t u e h k g p =
       number = stage-more m n e k (a .number);
     }))
 
-pub entries-more : (r : Roster) (stored more m n : ℕ) (ts us : List Executions) (x : ℕ) (h : Hold) → stored ≤ more → m ≤ n
+pub entries-more : {r : Roster} {stored more m n : ℕ} {ts us : List Executions} {x : ℕ} {h : Hold} → stored ≤ more → m ≤ n
     → ((s : ℕ) → Grows (tableOf ts s) (tableOf us s)) → Entries r stored m ts x h → Entries r more n us x h
-entries-more r stored more m n ts us x h p q g f =
+entries-more {r} {stored} {more} {m} {n} {x = x} {h = h} p q g f =
     record { size = f .size; places = λ k l. entry-more r stored more m n x _ _ (entryAt h k) p q (g (entryAt h k .sender)) (f .places k l) }
 
 item-more : (r : Roster) (stored more c k : ℕ) (i : Item) → stored ≤ more → itemSound r stored c k i ≡ true → itemSound r more c k i ≡ true
@@ -126,8 +126,8 @@ item-more r stored more c k i h e =
     rw z (and-both (a .0) (slot-more (i .slot) stored more h (a .1))))
     (λ z. rw z (rw z at e))
 
-pub items-more : (r : Roster) (stored more m n x : ℕ) (d : Delivered) → stored ≤ more → m ≤ n → Items r stored m x d → Items r more n x d
-items-more r stored more m n x d p q f =
+pub items-more : {r : Roster} {stored more m n x : ℕ} {d : Delivered} → stored ≤ more → m ≤ n → Items r stored m x d → Items r more n x d
+items-more {r} {stored} {more} {d = d} p q f =
     record {
       size = f .size;
       most = omega (arith, f .most);

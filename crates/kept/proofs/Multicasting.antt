@@ -26,33 +26,33 @@ use Rattle.kept.proofs.Proposing.{own-found}
 use Rattle.kept.proofs.Putting.{Fits, Keeps, with-hold, with-outgoing}
 
 -- the ids of a correct server's executions are 1, 2, 3, ..
-new-id : (r : Roster) (m x : ℕ) (t : Executions) → Table r m x t → correct r x ≡ true → (j : ℕ) → j < t .count → executionAt t j .id ≢ t .count + 1
-new-id r m x t f good j l e =
+new-id : {r : Roster} {m x : ℕ} {t : Executions} → Table r m x t → correct r x ≡ true → (j : ℕ) → j < t .count → executionAt t j .id ≢ t .count + 1
+new-id {r} {m} {x} {t} f good j l e =
     let top = f .most in
     let g = place-out r m x (t .count) j (executionAt t j) l (f .places j (omega arith)) in
     let i = g .gapless good in
     omega arith
 
-module _ (r : Roster) (stored m : ℕ) (ts : List Executions) (all : length ts ≡ servers) where
-  multicast-fits : (s slot : ℕ) (b : Boxes) → s < servers → Fits r stored m ts s s s b → member r s ≡ true → correct r s ≡ true → ltb slot stored ≡ true
+module _ {r : Roster} {stored m : ℕ} {ts : List Executions} (all : length ts ≡ servers) where
+  multicast-fits : {s : ℕ} (slot : ℕ) {b : Boxes} → s < servers → Fits r stored m ts s s s b → member r s ≡ true → correct r s ≡ true → ltb slot stored ≡ true
       → b .executions .count < executionsMost → Fits r stored m ts s s s (multicastDone r s slot b)
   unfolding multicastDone made
-  multicast-fits s slot b seated f mine good there room =
+  multicast-fits {s} slot {b} seated f mine good there room =
       let id = b .executions .count + 1 in
-      let g = made-fits r stored m ts s s s b f all seated mine id (b .request .digest) room (new-id r (b .numbered) s (b .executions) (f .table) good) (λ _. refl) in
-      let found = made-found r stored m ts s s s b f all seated mine id (b .request .digest) room in
+      let g = made-fits f all seated mine id (b .request .digest) room (new-id (f .table) good) (λ _. refl) in
+      let found = made-found f all seated mine id (b .request .digest) room in
       let names = and-both mine there in
       let h =
       with-hold g _
-      (entry-kept r stored _ _ s (b .hold) (g .entries) (entryOf 2 s id slot 0)
+      (entry-kept (g .entries) (entryOf 2 s id slot 0)
       (second-entry r stored _ s _ mine s id slot names (own-found ts s (made r s id (b .request .digest) b .executions) 2 s id slot 0 all refl seated found)))
       in
-      with-outgoing h _ (packets-sent r stored s mine (record { id = id; sender = s; slot = slot }) names nobody s (b .outgoing) (f .packets))
+      with-outgoing h _ (packets-sent mine (record { id = id; sender = s; slot = slot }) names nobody s (f .packets))
 
-  pub multicast-keeps : (s : ℕ) (b : Boxes) → s < servers → Fits r stored m ts s s s b → (server slot : ℕ) → (member r server ≡ true → s ≡ server)
+  pub multicast-keeps : {s : ℕ} {b : Boxes} → s < servers → Fits r stored m ts s s s b → (server slot : ℕ) → (member r server ≡ true → s ≡ server)
       → Keeps r stored m ts s s s (multicastOf r server slot b)
   unfolding multicastOf
-  multicast-keeps s b seated f server slot at =
+  multicast-keeps {s} {b} seated f server slot at =
       let P : Stepped → Type 0 = Keeps r stored m ts s s s in
       musts P (member r server) _ _ f λ mine.
       musts P (not (faulty r server)) _ _ f λ good.
@@ -62,4 +62,4 @@ module _ (r : Roster) (stored m : ℕ) (ts : List Executions) (all : length ts �
       musts P (roomy r server b) _ _ f λ _.
       let q = at mine in
       rw q
-      (multicast-fits server slot b (rw q at seated) (rw q at f) mine (and-both mine good) (rw (f .same) at there) (ltb-true (b .executions .count) executionsMost room))
+      (multicast-fits slot (rw q at seated) (rw q at f) mine (and-both mine good) (rw (f .same) at there) (ltb-true (b .executions .count) executionsMost room))

@@ -25,7 +25,7 @@ use Rattle.soundness.specs.Sound.{orderSound, placeSound, newId, numberAt}
 use Rattle.soundness.proofs.Seats.{seat-own}
 use Rattle.rules.specs.declared.boxes.Boxes.{Boxes}
 use Rattle.rules.specs.Rules.{withExecutions, made, recorded}
-use Rattle.kept.proofs.Every.{either, same?, less?, and2, and5, or-left, not-in, not-out, found-at, found-where, and-both, any-in, any-none, every-at, every-all}
+use Rattle.kept.proofs.Every.{either, same?, less?, sides-more, and2, and5, or-left, not-in, not-out, found-at, found-where, and-both, any-in, any-none, every-at, every-all}
 use Rattle.kept.proofs.Counts.{Numbers, numbers-same, numbers-more}
 use Rattle.kept.proofs.Facts.{noTable, set-cases, Table, Made, place-in, place-out}
 use Rattle.kept.proofs.More.{Grows, place-more, entries-more, items-more}
@@ -75,7 +75,7 @@ module _ (ts : List Executions) (x : ℕ) (t u : Executions) (all : length ts �
       (λ (e : i / executionsMost ≢ x). other-number ts x i u h e ∙ sym (other-number ts x i t h e))
 
 -- the ids of a table differ
-module _ (r : Roster) (m x : ℕ) (t : Executions) (f : Table r m x t) where
+module _ {r : Roster} {m x : ℕ} {t : Executions} (f : Table r m x t) where
   older : (j i : ℕ) → j < i → i < t .count → executionAt t j .id ≢ executionAt t i .id
   unfolding newId
   older j i a b =
@@ -141,7 +141,7 @@ module _ (t : Executions) (k c : ℕ) (e : Execution) (size : length (t .table) 
         (λ (p : j ≢ k).
         set-cases (λ y. executionAt t j .id ≢ y .id) (t .table) k i e noExecution (omega arith)
         (λ (q : i ≡ k). new j (omega arith) p)
-        (λ (q : i ≢ k). older r m x t f j i a (ltb-true i (t .count) (sides i q ∙ lt-ltb i c b))))
+        (λ (q : i ≢ k). older f j i a (ltb-true i (t .count) (sides i q ∙ lt-ltb i c b))))
 
     pub table-changed : Table r n x (changed t k c e)
     unfolding newId
@@ -168,19 +168,13 @@ module _ (t : Executions) (k c : ℕ) (e : Execution) (size : length (t .table) 
               (λ _. refl),
         ))
 
-sides-more : (j c : ℕ) → j ≢ c → ltb j c ≡ ltb j (c + 1)
-sides-more j c d =
-    either (less? j c)
-    (λ (l : j < c). lt-ltb j c l ∙ sym (lt-ltb j (c + 1) (omega arith)))
-    (λ (l : c ≤ j). le-ltb j c l ∙ sym (le-ltb j (c + 1) (omega arith)))
-
 -- a numbered execution's mask is final
 called-order : (r : Roster) (m : ℕ) (e : Execution) (s : ℕ) → e .number ≢ 0 → orderSound r m e ≡ true → orderSound r m (called e s) ≡ true
 unfolding orderSound
 called-order r m e s d p = let z = ne-eqb (e .number) 0 d in rw z (rw z at p)
 
 -- boxes with a table changed by the orderer
-module _ (r : Roster) (stored m : ℕ) (ts : List Executions) (server holder x : ℕ) (b : Boxes) (f : Fits r stored m ts server holder x b)
+module _ {r : Roster} {stored m : ℕ} {ts : List Executions} {server holder x : ℕ} {b : Boxes} (f : Fits r stored m ts server holder x b)
     (all : length ts ≡ servers) (seated : x < servers) (mine : member r x ≡ true) where
   module _ (k c : ℕ) (e : Execution) (o : Ordered) (ord : Orders r (b .numbered) x k e o) (inside : k < executionsMost) (counted : k < c) (most : c ≤ executionsMost)
       (sides : (j : ℕ) → j ≢ k → ltb j (b .executions .count) ≡ ltb j c) (new : (j : ℕ) → j < c → j ≢ k → executionAt (b .executions) j .id ≢ e .id)
@@ -216,9 +210,9 @@ module _ (r : Roster) (stored m : ℕ) (ts : List Executions) (server holder x :
           table = table-changed (b .executions) k c (o .execution) (f .table .size) inside r (b .numbered) (o .numbered) x (f .table) mine up counted most sides (ord .made) new-of;
           packets = f .packets;
           entries =
-              entries-more r stored stored (b .numbered) (o .numbered) _ _ holder (b .hold) (omega arith) up
+              entries-more (omega arith) up
               (tables-grow ts x (b .executions) (changed (b .executions) k c (o .execution)) (omega arith) grows-of) (f .entries);
-          items = items-more r stored stored (b .numbered) (o .numbered) server (b .delivered) (omega arith) up (f .items);
+          items = items-more (omega arith) up (f .items);
         }
 
   -- an execution made
@@ -231,7 +225,7 @@ module _ (r : Roster) (stored m : ℕ) (ts : List Executions) (server holder x :
       changed-fits c (c + 1) (opened x id digest) (ordered r (opened x id digest) (b .numbered))
       (orders r (b .numbered) x c (opened x id digest) (f .numbers .most) (opened-masks r x id digest seated mine) (λ z. absurd (z refl)) gapless)
       room (omega arith) (omega arith) (λ j d. sides-more j c d) (λ j p d. new j (omega arith))
-      (unused-number r (b .numbered) x (b .executions) (f .table) c (omega arith) room) (λ z. absurd (omega arith))
+      (unused-number (f .table) c (omega arith) room) (λ z. absurd (omega arith))
 
   -- which can then be found
   pub made-found : (id : ℕ) (digest : List ℕ) → b .executions .count < executionsMost → isFound (executionOf (made r x id digest b .executions) id) ≡ true
@@ -257,4 +251,4 @@ module _ (r : Roster) (stored m : ℕ) (ts : List Executions) (server holder x :
       let g = place-out r (b .numbered) x (t .count) k e there (f .table .places k inside) in
       changed-fits k (t .count) (called e s) (ordered r (called e s) (b .numbered))
       (orders r (b .numbered) x k (called e s) (f .numbers .most) (called-masks r x e s l caller (g .masks)) (λ d. called-order r (b .numbered) e s d (g .order)) (g .gapless))
-      inside there top (λ j d. refl) (λ j p d. ids-differ r (b .numbered) x t (f .table) j k p there d) refl (λ z. refl)
+      inside there top (λ j d. refl) (λ j p d. ids-differ (f .table) j k p there d) refl (λ z. refl)

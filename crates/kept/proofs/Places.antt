@@ -1,13 +1,13 @@
 -- What a change at one place does to sound boxes: an entry, a packet or an item put there. Assumes nothing.
-use mathlib.Core.Path.{_≡_, refl, sym, ap, _∙_}
+use mathlib.Core.Path.{_≡_, refl, _∙_}
 use mathlib.Core.Logic.{_≢_}
 use mathlib.Core.Bool.{true, not}
 use mathlib.Core.List.{List}
 use Prim.Native.Nat.{ℕ, zero, suc, _+_, _<_, _≤_}
 use native.Mathlib.Omega.{arith}
 use lib.Dec.{eqb, ltb}
-use lib.ListN.{length, length-set}
-use borrow.Author.Tests.{le-leb, ltb-true, ltb-false, lt-ltb, le-ltb}
+use lib.ListN.{length-set}
+use borrow.Author.Tests.{le-leb, lt-ltb}
 use Rattle.search.specs.declared.Found.{Found}
 use Rattle.search.specs.declared.Found.the-variants.{At, Nothing}
 use Rattle.search.specs.Search.{isFound}
@@ -25,12 +25,11 @@ use Rattle.world.specs.Sizes.{servers, outgoingPlaces, holdPlaces, deliveredMos
 use Rattle.world.specs.Masks.{has}
 use Rattle.world.specs.Roster.{member}
 use Rattle.world.specs.Outgoing.{freePacket, packetFor, freePlace, putPacket, cleared, postedAt, posted, recipient, sentBelow, sent}
-use Rattle.world.specs.Hold.{entryOf, freeEntry, entryAt, vacancy, put, freed, keptAt, kept}
+use Rattle.world.specs.Hold.{entryOf, freeEntry, vacancy, put, freed, keptAt, kept}
 use Rattle.world.specs.Delivered.{unusedItem, nextOf, appended}
-use Rattle.world.proofs.Lists.{getD-out}
 use Rattle.soundness.specs.Names.{names, tableOf, ownExecution}
 use Rattle.soundness.specs.Sound.{packetSound, stageSound, entrySound, itemSound}
-use Rattle.kept.proofs.Every.{either, less?, test, chosen, and2, and3, and-both, or-left}
+use Rattle.kept.proofs.Every.{sides-more, chosen, and2, and3, and-both, or-left}
 use Rattle.kept.proofs.Facts.{set-cases, Packets, Entries, Items, entry-in}
 
 -- an entry at stage one, and one at stage two, whose execution is in the table
@@ -64,15 +63,8 @@ module _ (r : Roster) (stored m x : ℕ) (t : Executions) (mine : member r x ≡
         number = and-both (le-leb 1 number (omega arith)) (le-leb number m low);
       })
 
--- past the places there is no entry
-pub entry-within : (h : Hold) (k stage : ℕ) → length (h .places) ≡ holdPlaces → entryAt h k .stage ≡ stage → stage ≢ 0 → k < holdPlaces
-entry-within h k stage l e d =
-    either (less? k holdPlaces)
-    (λ (p : k < holdPlaces). p)
-    (λ (p : holdPlaces ≤ k). absurd (d (sym e ∙ ap (λ (y : Entry). y .stage) (getD-out (h .places) k freeEntry (omega arith)))))
-
 -- a hold
-module _ (r : Roster) (stored m : ℕ) (ts : List Executions) (x : ℕ) (h : Hold) (f : Entries r stored m ts x h) where
+module _ {r : Roster} {stored m : ℕ} {ts : List Executions} {x : ℕ} {h : Hold} (f : Entries r stored m ts x h) where
   pub entry-put : (k : ℕ) (e : Entry) → k < holdPlaces → entrySound r stored m x (tableOf ts (e .sender)) e ≡ true → Entries r stored m ts x (put h k e)
   entry-put k e p s =
       record {
@@ -104,51 +96,53 @@ pub packet-out : (r : Roster) (stored x : ℕ) (p : Packet) → p .there ≡ tru
 unfolding packetSound
 packet-out r stored x p there e = and3 (member r x) (member r (p .to)) (names r stored (p .sender) (p .slot)) (rw there at e)
 
+-- a packet that is sent
+pub sending-sound : (r : Roster) (stored x : ℕ) (s : Sending) (to : ℕ) → member r x ≡ true → names r stored (s .sender) (s .slot) ≡ true → member r to ≡ true
+    → packetSound r stored x (packetFor to s) ≡ true
+unfolding packetSound
+sending-sound r stored x s to mine good there = and-both (and-both mine there) good
+
 -- the outgoing places
-module _ (r : Roster) (stored x : ℕ) where
-  packet-put : (o : Outgoing) → Packets r stored x o → (k : ℕ) (p : Packet) → k < outgoingPlaces → packetSound r stored x p ≡ true
+module _ {r : Roster} {stored x : ℕ} where
+  packet-put : {o : Outgoing} → Packets r stored x o → (k : ℕ) (p : Packet) → k < outgoingPlaces → packetSound r stored x p ≡ true
       → Packets r stored x (putPacket o k p)
-  packet-put o f k p l s =
+  packet-put {o} f k p l s =
       record {
         size = length-set (o .places) k p ∙ f .size;
         places = λ j q. set-cases (λ y. packetSound r stored x y ≡ true) (o .places) k j p freePacket (omega (arith, f .size)) (λ _. s) (λ _. f .places j q);
       }
 
-  pub packet-cleared : (o : Outgoing) → Packets r stored x o → (k : ℕ) → k < outgoingPlaces → Packets r stored x (cleared o k)
+  pub packet-cleared : {o : Outgoing} → Packets r stored x o → (k : ℕ) → k < outgoingPlaces → Packets r stored x (cleared o k)
   unfolding packetSound
-  packet-cleared o f k l = packet-put o f k freePacket l refl
+  packet-cleared f k l = packet-put f k freePacket l refl
 
-  posted-at : (o : Outgoing) → Packets r stored x o → (p : Packet) → packetSound r stored x p ≡ true → (g : Found) → g ≡ freePlace o → Packets r stored x (postedAt o p g)
+  posted-at : {o : Outgoing} → Packets r stored x o → (p : Packet) → packetSound r stored x p ≡ true → (g : Found) → g ≡ freePlace o → Packets r stored x (postedAt o p g)
   unfolding postedAt
-  posted-at o f p s (At k) q = packet-put o f k p (found-in _ outgoingPlaces k (At k) q refl) s
-  posted-at o f p s Nothing q = f
+  posted-at f p s (At k) q = packet-put f k p (found-in _ outgoingPlaces k (At k) q refl) s
+  posted-at f p s Nothing q = f
 
-  pub packet-posted : (o : Outgoing) → Packets r stored x o → (p : Packet) → packetSound r stored x p ≡ true → Packets r stored x (posted o p)
+  pub packet-posted : {o : Outgoing} → Packets r stored x o → (p : Packet) → packetSound r stored x p ≡ true → Packets r stored x (posted o p)
   unfolding posted
-  packet-posted o f p s = posted-at o f p s (freePlace o) refl
+  packet-posted {o} f p s = posted-at f p s (freePlace o) refl
 
   module _ (mine : member r x ≡ true) (s : Sending) (good : names r stored (s .sender) (s .slot) ≡ true) where
-    pub sending-sound : (to : ℕ) → member r to ≡ true → packetSound r stored x (packetFor to s) ≡ true
-    unfolding packetSound
-    sending-sound to l = and-both (and-both mine l) good
-
-    below : (mask server : ℕ) (o : Outgoing) → Packets r stored x o → (n : ℕ) → Packets r stored x (sentBelow r mask server s o n)
+    below : (mask server : ℕ) {o : Outgoing} → Packets r stored x o → (n : ℕ) → Packets r stored x (sentBelow r mask server s o n)
     unfolding sentBelow
-    below mask server o f zero = f
-    below mask server o f (suc n) =
-        let g = below mask server o f n in
+    below mask server f zero = f
+    below mask server {o} f (suc n) =
+        let g = below mask server f n in
         chosen (λ v. Packets r stored x v) (recipient r mask server n) (posted (sentBelow r mask server s o n) (packetFor n s)) (sentBelow r mask server s o n)
-        (λ e. packet-posted (sentBelow r mask server s o n) g (packetFor n s) (sending-sound n (and3 (member r n) (not (has mask n)) (not (eqb n server)) e .0)))
+        (λ e. packet-posted g (packetFor n s) (sending-sound r stored x s n mine good (and3 (member r n) (not (has mask n)) (not (eqb n server)) e .0)))
         (λ _. g)
 
-    pub packets-sent : (mask server : ℕ) (o : Outgoing) → Packets r stored x o → Packets r stored x (sent r mask server s o)
-    packets-sent mask server o f = below mask server o f servers
+    pub packets-sent : (mask server : ℕ) {o : Outgoing} → Packets r stored x o → Packets r stored x (sent r mask server s o)
+    packets-sent mask server f = below mask server f servers
 
 -- an item more
-pub item-appended : (r : Roster) (stored m x : ℕ) (d : Delivered) (i : Item) → m ≤ deliveredMost → d .count < m → member r x ≡ true
+pub item-appended : {r : Roster} {stored m x : ℕ} {d : Delivered} (i : Item) → m ≤ deliveredMost → d .count < m → member r x ≡ true
     → names r stored (i .sender) (i .slot) ≡ true → Items r stored m x d → Items r stored m x (appended d i)
 unfolding itemSound
-item-appended r stored m x d i a b mine good f =
+item-appended {r} {stored} {m} {x} {d} i a b mine good f =
     let n : nextOf d ≡ d .count + 1 = omega arith in
     record {
       size = length-set (d .items) (d .count) i ∙ f .size;
@@ -157,7 +151,5 @@ item-appended r stored m x d i a b mine good f =
       places = λ k p.
           set-cases (λ y. itemSound r stored (nextOf d) k y ≡ true) (d .items) (d .count) k i unusedItem (omega (arith, f .size))
           (λ (e : k ≡ d .count). rw (lt-ltb k (nextOf d) (omega arith)) good)
-          (λ (e : k ≢ d .count). test (ltb k (d .count))
-          (λ z. rw (lt-ltb k (nextOf d) (omega (arith, ltb-true k (d .count) z))) (rw z at (f .places k p)))
-          (λ z. rw (le-ltb k (nextOf d) (omega (arith, ltb-false k (d .count) z))) (rw z at (f .places k p))));
+          (λ (e : k ≢ d .count). rw (n, ← sides-more k (d .count) e) (f .places k p));
     }

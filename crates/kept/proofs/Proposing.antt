@@ -21,7 +21,7 @@ use Rattle.world.specs.Roster.{member, faulty}
 use Rattle.world.specs.Requests.{sameDigest}
 use Rattle.world.specs.Executions.{executionAt, executionOf}
 use Rattle.world.specs.Outgoing.{needed, freePlaces}
-use Rattle.world.specs.Hold.{entryOf, entryAt}
+use Rattle.world.specs.Hold.{entryOf, freeEntry, entryAt}
 use Rattle.world.specs.Boxes.{seat}
 use Rattle.soundness.specs.Names.{tableOf, ownExecution}
 use Rattle.soundness.proofs.Seats.{seat-own}
@@ -29,8 +29,8 @@ use Rattle.rules.specs.declared.boxes.Boxes.{Boxes}
 use Rattle.rules.specs.declared.boxes.Stepped.{Stepped}
 use Rattle.rules.specs.Rules.{raised, droppedAt, proposeTo, proposeFound, proposeOf, settleTo, settleFound, settleOf}
 use Rattle.kept.proofs.Every.{musts, and-both, not-out}
-use Rattle.kept.proofs.Facts.{noTable, Held, entry-out, place-out, order-low}
-use Rattle.kept.proofs.Places.{second-entry, third-entry, entry-within, entry-put, entry-freed, packets-sent}
+use Rattle.kept.proofs.Facts.{noTable, inside, Held, entry-out, place-out, order-low}
+use Rattle.kept.proofs.Places.{second-entry, third-entry, entry-put, entry-freed, packets-sent}
 use Rattle.kept.proofs.Ordering.{found-made, recorded-fits}
 use Rattle.kept.proofs.Putting.{Fits, Keeps, with-hold, with-outgoing}
 
@@ -41,7 +41,7 @@ own-found ts x t stage sender id slot number all e l p =
     let a : getD (set ts x t) sender noTable ≡ t = ap (λ (s : ℕ). getD (set ts x t) s noTable) (sym e) ∙ getD-set-same ts x t noTable (omega arith) in
     rw (lt-ltb sender servers l) (subst (λ (v : Executions). isFound (executionOf v id) ≡ true) (sym a) p)
 
-module _ (r : Roster) (few : r .n ≤ servers) (stored m : ℕ) (ts : List Executions) (all : length ts ≡ servers) (s x : ℕ) (b : Boxes)
+module _ {r : Roster} (few : r .n ≤ servers) {stored m : ℕ} {ts : List Executions} (all : length ts ≡ servers) {s x : ℕ} {b : Boxes}
     (f : Fits r stored m ts s s x b) (place : ℕ) (own : x ≡ seat (entryAt (b .hold) place .sender)) where
   e : Entry
   e = entryAt (b .hold) place
@@ -56,19 +56,19 @@ module _ (r : Roster) (few : r .n ≤ servers) (stored m : ℕ) (ts : List Execu
   used : (stage : ℕ) → stage ≢ 0 → entryAt (b .hold) place .stage ≡ stage → Used
   unfolding e
   used stage d q =
-      let l = entry-within (b .hold) place stage (f .entries .size) q d in
+      let l = inside (λ (y : Entry). y .stage ≡ stage) (b .hold .places) place holdPlaces freeEntry (f .entries .size) q (λ z. d (sym z)) in
       let h = entry-out r stored (b .numbered) s _ (entryAt (b .hold) place) (λ z. d (sym q ∙ z)) (f .entries .places place l) in
       let n : entryAt (b .hold) place .sender < servers = omega (arith, ltb-true (entryAt (b .hold) place .sender) (r .n) (h .sender)) in
       record { within = l; held = h; below = n; whose = own ∙ seat-own (entryAt (b .hold) place .sender) n }
 
   dropped-fits : Used → Keeps r stored m ts s s x (droppedAt place b)
-  dropped-fits u = with-hold f _ (entry-freed r stored (b .numbered) _ s (b .hold) (f .entries) place (u .within))
+  dropped-fits u = with-hold f _ (entry-freed (f .entries) place (u .within))
 
   second-fits : Used → isFound (executionOf (b .executions) (e .id)) ≡ true → Fits r stored m ts s s x (raised place 2 0 b)
   unfolding e
   second-fits u found =
       with-hold f _
-      (entry-put r stored (b .numbered) _ s (b .hold) (f .entries) place _ (u .within)
+      (entry-put (f .entries) place _ (u .within)
       (second-entry r stored (b .numbered) s _ (u .held .holder) (e .sender) (e .id) (e .slot) (and-both (u .held .sender) (u .held .slot))
       (own-found ts x (b .executions) 2 (e .sender) (e .id) (e .slot) 0 all (u .whose) (u .below) found)))
 
@@ -83,7 +83,7 @@ module _ (r : Roster) (few : r .n ≤ servers) (stored m : ℕ) (ts : List Execu
       musts P (not (has (y .called) server)) _ _ (dropped-fits u) λ _.
       musts P (has (b .request .seals) server) _ _ second λ _.
       musts P (sameDigest (b .request .digest) (y .digest)) _ _ (dropped-fits u) λ _.
-      recorded-fits r stored m ts s s x (raised place 2 0 b) second all (rw (u .whose) (u .below)) (rw (u .whose) (u .held .sender)) server k
+      recorded-fits second all (rw (u .whose) (u .below)) (rw (u .whose) (u .held .sender)) server k
       (found-made (b .executions) (entryAt (b .hold) place .id) k (sym q)) l mine
   proposed server mine l u Nothing q = f
 
@@ -110,7 +110,7 @@ module _ (r : Roster) (few : r .n ≤ servers) (stored m : ℕ) (ts : List Execu
       musts P (not (eqb (y .number) 0)) _ _ f λ some.
       let third : Fits r stored m ts s s x (raised place 3 (y .number) b) =
       with-hold f _
-      (entry-put r stored (b .numbered) _ s (b .hold) (f .entries) place _ (u .within)
+      (entry-put (f .entries) place _ (u .within)
       (third-entry r stored (b .numbered) s _ (u .held .holder) (h .sender) (h .id) (h .slot) good (y .number) (eqb-false (y .number) 0 (not-out _ some))
       (order-low r (b .numbered) y (g .order))
       (own-found ts x (b .executions) 3 (h .sender) (h .id) (h .slot) (y .number) all (u .whose) (u .below) (rw (← q)))))
@@ -119,7 +119,7 @@ module _ (r : Roster) (few : r .n ≤ servers) (stored m : ℕ) (ts : List Execu
       musts P (not (eqb (h .sender) server)) _ _ third λ _.
       musts P (leb (needed r (y .mask) server) (freePlaces (b .outgoing))) _ _ f λ _.
       with-outgoing third _
-      (packets-sent r stored s (u .held .holder) (record { id = h .id; sender = h .sender; slot = h .slot }) good (y .mask) server (b .outgoing) (f .packets))
+      (packets-sent (u .held .holder) (record { id = h .id; sender = h .sender; slot = h .slot }) good (y .mask) server (f .packets))
   settled server u Nothing q = f
 
   pub settle-keeps : (server : ℕ) → Keeps r stored m ts s s x (settleOf r server place b)

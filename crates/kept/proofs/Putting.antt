@@ -75,7 +75,7 @@ module _ (w : World) (f : FactsOf w) (t : Touch) (server : t .server < servers) 
           tables = λ s h.
               set-cases (λ v. Table (w .roster) (b .numbered) s v) (w .executions) (t .sender) s (b .executions) noTable (rw (f .all-tables) sender)
               (λ (e : s ≡ t .sender). rw e (g .table))
-              (λ _. table-more (w .roster) (w .numbered) (b .numbered) s _ (g .more) (f .tables s h));
+              (λ _. table-more (g .more) (f .tables s h));
           packets = λ s h.
               set-cases (λ v. Packets (w .roster) (w .requests .count) s v) (w .outgoing) (t .server) s (b .outgoing) noPackets (rw (f .all-packets) server)
               (λ (e : s ≡ t .server). rw e (g .packets))
@@ -84,11 +84,11 @@ module _ (w : World) (f : FactsOf w) (t : Touch) (server : t .server < servers) 
               set-cases (λ v. Entries (w .roster) (w .requests .count) (b .numbered) (set (w .executions) (t .sender) (b .executions)) s v)
               (w .holds) (t .holder) s (b .hold) noEntries (rw (f .all-entries) holder)
               (λ (e : s ≡ t .holder). rw e (g .entries))
-              (λ _. entries-more (w .roster) (w .requests .count) (w .requests .count) (w .numbered) (b .numbered) _ _ s _ (omega arith) (g .more) grown (f .entries s h));
+              (λ _. entries-more (omega arith) (g .more) grown (f .entries s h));
           items = λ s h.
               set-cases (λ v. Items (w .roster) (w .requests .count) (b .numbered) s v) (w .delivered) (t .server) s (b .delivered) noItems (rw (f .all-items) server)
               (λ (e : s ≡ t .server). rw e (g .items))
-              (λ _. items-more (w .roster) (w .requests .count) (w .requests .count) (w .numbered) (b .numbered) s _ (omega arith) (g .more) (f .items s h));
+              (λ _. items-more (omega arith) (g .more) (f .items s h));
         }
 
 -- boxes with one of them changed

@@ -7,7 +7,7 @@ use Prim.Native.Nat.{ℕ, _+_, _<_, _≤_}
 use native.Mathlib.Omega.{arith}
 use lib.Dec.{eqb, ltb}
 use lib.ListN.{getD, set, length-set}
-use borrow.Author.Tests.{eq-eqb, ltb-true, ltb-false, lt-ltb, le-ltb}
+use borrow.Author.Tests.{eq-eqb, ltb-true, lt-ltb}
 use Rattle.digest.specs.Digest.{digestBytes}
 use Rattle.world.specs.declared.World.{World}
 use Rattle.world.specs.declared.roster.Roster.{Roster}
@@ -20,7 +20,7 @@ use Rattle.rules.specs.declared.storing.Requested.{Requested}
 use Rattle.rules.specs.Rules.{requestFrom, requestOf}
 use Rattle.soundness.specs.Sound.{storedSound, slotSound, newDigest}
 use Rattle.rehearsal.specs.Steps.{withRequests}
-use Rattle.kept.proofs.Every.{test, musts, and-both, not-in, not-out, any-none, every-at, every-all}
+use Rattle.kept.proofs.Every.{sides-more, musts, and-both, not-in, not-out, any-none, every-at, every-all}
 use Rattle.kept.proofs.Facts.{set-cases, Stored, FactsOf}
 use Rattle.kept.proofs.More.{packets-more, entries-more, items-more}
 
@@ -40,9 +40,7 @@ module _ (r : Roster) (q : Requests) (f : Stored r q) where
     slot-added k p =
         set-cases (λ y. slotSound r (q .count + 1) k y ≡ true) (q .slots) (q .count) k x noRequest (omega (arith, f .size))
         (λ (e : k ≡ q .count). rw (lt-ltb k (q .count + 1) (omega arith)) good)
-        (λ (e : k ≢ q .count). test (ltb k (q .count))
-        (λ z. rw (lt-ltb k (q .count + 1) (omega (arith, ltb-true k (q .count) z))) (rw z at (f .slots k p)))
-        (λ z. rw (le-ltb k (q .count + 1) (omega (arith, ltb-false k (q .count) z))) (rw z at (f .slots k p))))
+        (λ (e : k ≢ q .count). rw (← sides-more k (q .count) e) (f .slots k p))
 
     unknown : (j : ℕ) → j < q .count → sameDigest (requestAt q j .digest) (x .digest) ≡ false
     unfolding knownDigest
@@ -100,7 +98,6 @@ pub request-facts : (w : World) → FactsOf w → (client number seals : ℕ) (c
     → FactsOf (withRequests w (requestOf (w .roster) client number seals command (w .requests) .requests))
 request-facts w f client number seals command =
     let s = request-stores (w .roster) (w .requests) (f .requests) client number seals command in
-    let c = requestOf (w .roster) client number seals command (w .requests) .requests .count in
     record {
       roster = f .roster;
       requests = s .stored;
@@ -110,7 +107,7 @@ request-facts w f client number seals command =
       all-entries = f .all-entries;
       all-items = f .all-items;
       tables = f .tables;
-      packets = λ i h. packets-more (w .roster) (w .requests .count) c i _ (s .more) (f .packets i h);
-      entries = λ i h. entries-more (w .roster) (w .requests .count) c (w .numbered) (w .numbered) _ _ i _ (s .more) (omega arith) (λ _ _ p. p) (f .entries i h);
-      items = λ i h. items-more (w .roster) (w .requests .count) c (w .numbered) (w .numbered) i _ (s .more) (omega arith) (f .items i h);
+      packets = λ i h. packets-more (s .more) (f .packets i h);
+      entries = λ i h. entries-more (s .more) (omega arith) (λ _ _ p. p) (f .entries i h);
+      items = λ i h. items-more (s .more) (omega arith) (f .items i h);
     }

@@ -21,6 +21,7 @@ use Rattle.soundness.proofs.Seats.{seat-own, seated}
 use Rattle.rules.specs.declared.boxes.Boxes.{Boxes}
 use Rattle.schedule.specs.declared.kinds.Form.{Form}
 use Rattle.schedule.specs.declared.kinds.Form.the-variants.{Start, Step, Bad}
+use Rattle.schedule.specs.declared.reading.Refusal.{Refusal}
 use Rattle.schedule.specs.declared.reading.Read.{Read}
 use Rattle.schedule.specs.declared.reading.Read.the-variants as read
 use Rattle.schedule.specs.declared.scanning.Verdict.{Verdict}
@@ -31,7 +32,7 @@ use Rattle.schedule.specs.Judging.{scheduleMost, scanned, startJudged, recordsJ
 use Rattle.rehearsal.specs.declared.stepping.Taken.{Taken}
 use Rattle.rehearsal.specs.Steps.{touch, boxesOf, putBack, stepOf, worldAfter}
 use Rattle.rehearsal.specs.Runs.{startOf, steppedBy, stepped, startWorld}
-use Rattle.kept.specs.Kept.{Good, StartGives, StepsKeep, RunSound, steppedAll, RowSound}
+use Rattle.kept.specs.Kept.{StartSound, StartShaped, StepSound, StepShaped, RunSound, steppedAll, RowSound}
 use Rattle.kept.proofs.Every.{musts, and4}
 use Rattle.kept.proofs.Facts.{FactsOf, world-out, world-in, world-shaped}
 use Rattle.kept.proofs.Start.{start-facts}
@@ -68,46 +69,44 @@ unfolding stepOf
 step-facts w (Request client number seals command) f = request-facts w f client number seals command
 step-facts w (Multicast server slot) f =
     kept-by w f server server server slot _
-    (multicast-keeps (w .roster) (w .requests .count) (w .numbered) (w .executions) (f .all-tables) (seat server) _ (here w f server) (fits w f server server server slot) server slot (at w f server))
+    (multicast-keeps (f .all-tables) (here w f server) (fits w f server server server slot) server slot (at w f server))
 step-facts w (Arrive origin place) f =
     let to = packetAt (outgoingOf w origin) place .to in
     kept-by w f origin to origin 0 _
-    (arrive-keeps (w .roster) (w .requests .count) (w .numbered) (w .executions) (seat origin) (seat to) (seat origin) _ (fits w f origin to origin 0) origin place (at w f to))
+    (arrive-keeps (fits w f origin to origin 0) origin place (at w f to))
 step-facts w (Propose server place) f =
     let e = entryAt (holdOf w server) place in
     kept-by w f server server (e .sender) (e .slot) _
-    (propose-keeps (w .roster) (few-servers (w .roster) (f .roster)) (w .requests .count) (w .numbered) (w .executions) (f .all-tables) (seat server) (seat (e .sender)) _
-    (fits w f server server (e .sender) (e .slot)) place refl server (here w f server) (at w f server))
+    (propose-keeps (few-servers (w .roster) (f .roster)) (f .all-tables) (fits w f server server (e .sender) (e .slot)) place refl server (here w f server) (at w f server))
 step-facts w (Settle server place) f =
     let e = entryAt (holdOf w server) place in
     kept-by w f server server (e .sender) (e .slot) _
-    (settle-keeps (w .roster) (few-servers (w .roster) (f .roster)) (w .requests .count) (w .numbered) (w .executions) (f .all-tables) (seat server) (seat (e .sender)) _
-    (fits w f server server (e .sender) (e .slot)) place refl server)
+    (settle-keeps (few-servers (w .roster) (f .roster)) (f .all-tables) (fits w f server server (e .sender) (e .slot)) place refl server)
 step-facts w (Deliver server) f =
     kept-by w f server server server 0 _
-    (deliver-keeps (w .roster) (w .requests .count) (w .numbered) (w .executions) (seat server) (seat server) _ (fits w f server server server 0) server (at w f server))
+    (deliver-keeps (fits w f server server server 0) server (at w f server))
 step-facts w (ForgePacket from to sender id slot) f =
     kept-by w f from from from 0 _
-    (forge-packet-keeps (w .roster) (w .requests .count) (w .numbered) (w .executions) (seat from) (seat from) (seat from) _ (fits w f from from from 0) from to sender id slot (at w f from))
+    (forge-packet-keeps (fits w f from from from 0) from to sender id slot (at w f from))
 step-facts w (ForgeSend server id digest) f =
     kept-by w f server server server 0 _
-    (forge-send-keeps (w .roster) (w .requests .count) (w .numbered) (w .executions) (f .all-tables) (seat server) (seat server) _ (here w f server) (fits w f server server server 0) server id digest (at w f server))
+    (forge-send-keeps (f .all-tables) (here w f server) (fits w f server server server 0) server id digest (at w f server))
 step-facts w (ForgeReceive server sender id digest) f =
     kept-by w f server server sender 0 _
-    (forge-receive-keeps (w .roster) (w .requests .count) (w .numbered) (w .executions) (f .all-tables) (seat server) (seat server) (seat sender) _ (here w f server) (here w f sender)
+    (forge-receive-keeps (f .all-tables) (here w f server) (here w f sender)
     (fits w f server server sender 0) server (at w f server) sender id digest (at w f sender))
 
-good-in : (w : World) → FactsOf w → Good w
-good-in w f = record { shaped = world-shaped w f; isSound = world-in w f }
+pub start-sound : StartSound
+start-sound n faulty e = world-in (freshWorld n faulty) (start-facts n faulty e)
 
-good-out : (w : World) → Good w → FactsOf w
-good-out w g = world-out w (g .shaped) (g .isSound)
+pub start-shaped : StartShaped
+start-shaped n faulty e = world-shaped (freshWorld n faulty) (start-facts n faulty e)
 
-pub start-gives : StartGives
-start-gives n faulty e = good-in (freshWorld n faulty) (start-facts n faulty e)
+pub step-sound : StepSound
+step-sound w a g e = world-in (stepOf w a .world) (step-facts w a (world-out w g e))
 
-pub steps-keep : StepsKeep
-steps-keep w a g = good-in (stepOf w a .world) (step-facts w a (good-out w g))
+pub step-shaped : StepShaped
+step-shaped w a g e = world-shaped (stepOf w a .world) (step-facts w a (world-out w g e))
 
 -- a run
 run-facts : (w : World) (l : List Asked) → FactsOf w → FactsOf (worldAfter w l)
@@ -115,30 +114,31 @@ unfolding worldAfter
 run-facts w [] f = f
 run-facts w (a ∷ l) f = run-facts (stepOf w a .world) l (step-facts w a f)
 
-module _ (s : List ℕ) (k : ℕ) where
-  accepted-start : (v : Verdict) → startJudged s v ≡ Accepted k → goodRoster (record { n = byteAt s 1; faulty = byteAt s 2 }) ≡ true
-  accepted-start (Accepted j) =
-      musts (λ (v : Verdict). v ≡ Accepted k → goodRoster (record { n = byteAt s 1; faulty = byteAt s 2 }) ≡ true) (goodRoster (record { n = byteAt s 1; faulty = byteAt s 2 })) _ _
-      (λ e. let z : _≡_ {A = ℕ} 0 1 = cc in absurd (omega arith)) (λ g _. g)
-  accepted-start (Refused why o) = λ e. let z : _≡_ {A = ℕ} 0 1 = cc in absurd (omega arith)
+-- a schedule that is not refused has a good start
+abbrev Accepts : List ℕ → Verdict → Type 0
+Accepts s v = (k : ℕ) → v ≡ Accepted k → goodRoster (record { n = byteAt s 1; faulty = byteAt s 2 }) ≡ true
 
-  accepted-form : (v : Form) → recordsJudged s v ≡ Accepted k → goodRoster (record { n = byteAt s 1; faulty = byteAt s 2 }) ≡ true
+refused : (s : List ℕ) (why : Refusal) (at : ℕ) → Accepts s (Refused why at)
+refused s why at k e = let z : _≡_ {A = ℕ} 0 1 = cc in absurd (omega arith)
+
+module _ (s : List ℕ) where
+  accepts-start : (v : Verdict) → Accepts s (startJudged s v)
+  accepts-start (Accepted j) = musts (Accepts s) (goodRoster (record { n = byteAt s 1; faulty = byteAt s 2 })) _ _ (refused s _ _) (λ g _ _. g)
+  accepts-start (Refused why at) = refused s why at
+
+  accepts-form : (v : Form) → Accepts s (recordsJudged s v)
   unfolding recordsJudged
-  accepted-form (Start body) =
-      musts (λ (v : Verdict). v ≡ Accepted k → goodRoster (record { n = byteAt s 1; faulty = byteAt s 2 }) ≡ true) (leb body (length s - 1)) _ _
-      (λ e. let z : _≡_ {A = ℕ} 0 1 = cc in absurd (omega arith)) (λ _. accepted-start (scanned s (1 + body)))
-  accepted-form (Step kind body) = λ e. let z : _≡_ {A = ℕ} 0 1 = cc in absurd (omega arith)
-  accepted-form Bad = λ e. let z : _≡_ {A = ℕ} 0 1 = cc in absurd (omega arith)
+  accepts-form (Start body) = musts (Accepts s) (leb body (length s - 1)) _ _ (refused s _ _) (λ _. accepts-start (scanned s (1 + body)))
+  accepts-form (Step kind body) = refused s _ _
+  accepts-form Bad = refused s _ _
 
-  accepted-good : judged s ≡ Accepted k → goodRoster (record { n = byteAt s 1; faulty = byteAt s 2 }) ≡ true
+  accepts : Accepts s (judged s)
   unfolding judged
-  accepted-good =
-      musts (λ (v : Verdict). v ≡ Accepted k → goodRoster (record { n = byteAt s 1; faulty = byteAt s 2 }) ≡ true) (leb (length s) scheduleMost) _ _
-      (λ e. let z : _≡_ {A = ℕ} 0 1 = cc in absurd (omega arith)) (λ _. accepted-form (formOf (byteAt s 0)))
+  accepts = musts (Accepts s) (leb (length s) scheduleMost) _ _ (refused s _ _) (λ _. accepts-form (formOf (byteAt s 0)))
 
 pub run-sound : RunSound
 run-sound s k e =
-    world-in (worldAfter (startWorld s) (asked s)) (run-facts (startWorld s) (asked s) (start-facts (byteAt s 1) (byteAt s 2) (accepted-good s k e)))
+    world-in (worldAfter (startWorld s) (asked s)) (run-facts (startWorld s) (asked s) (start-facts (byteAt s 1) (byteAt s 2) (accepts s k e)))
 
 -- a row of public steps
 stepped-by : (w : World) (s : List ℕ) → FactsOf w → (v : Read) → FactsOf (steppedBy w s v .world)

@@ -29,18 +29,19 @@ pub record Shaped (w : World) : Type 0 where
   pub entries : (s : ℕ) → s < servers → length (holdOf w s .places) ≡ holdPlaces
   pub items : (s : ℕ) → s < servers → length (deliveredOf w s .items) ≡ deliveredMost
 
--- both, of which steps keep the second
-pub record Good (w : World) : Type 0 where
-  pub shaped : Shaped w
-  pub isSound : sound w ≡ true
-
 -- "Start gives sound worlds": a start that 25 does not refuse
-abbrev pub StartGives : Type 0
-StartGives = (n faulty : ℕ) → goodRoster (record { n = n; faulty = faulty }) ≡ true → Good (freshWorld n faulty)
+abbrev pub StartSound : Type 0
+StartSound = (n faulty : ℕ) → goodRoster (record { n = n; faulty = faulty }) ≡ true → sound (freshWorld n faulty) ≡ true
+
+abbrev pub StartShaped : Type 0
+StartShaped = (n faulty : ℕ) → goodRoster (record { n = n; faulty = faulty }) ≡ true → Shaped (freshWorld n faulty)
 
 -- "and steps keep them so": whatever is asked for, and whatever the answer
-abbrev pub StepsKeep : Type 0
-StepsKeep = (w : World) (a : Asked) → Good w → Good (stepOf w a .world)
+abbrev pub StepSound : Type 0
+StepSound = (w : World) (a : Asked) → Shaped w → sound w ≡ true → sound (stepOf w a .world) ≡ true
+
+abbrev pub StepShaped : Type 0
+StepShaped = (w : World) (a : Asked) → Shaped w → sound w ≡ true → Shaped (stepOf w a .world)
 
 -- so the world at the end of every schedule that is not refused is sound
 abbrev pub RunSound : Type 0
