@@ -1,7 +1,7 @@
 -- Soundness as facts: a record for each kind of box, and one for the whole world. Assumes nothing.
 use mathlib.Core.Path.{_≡_}
 use mathlib.Core.Logic.{_≢_}
-use mathlib.Core.Bool.{true, _||_}
+use mathlib.Core.Bool.{true, false, _||_}
 use mathlib.Core.List.{List, []}
 use Prim.Native.Nat.{ℕ, _+_, _*_, _/_, _%_, _<_, _≤_}
 use native.Mathlib.Omega.{arith}
@@ -126,14 +126,18 @@ order-low r m e p =
     (λ z. omega (arith, eqb-true (e .number) 0 z))
     (λ z. leb-true (e .number) m (and2 (eqb (ones (e .mask)) (threshold r)) (leb (e .number) m) (rw z at p) .1))
 
-place-low : (r : Roster) (m x c k : ℕ) (e : Execution) → placeSound r m x c k e ≡ true → e .number ≤ m
+-- and a place that is not used has none
+pub place-unused : (r : Roster) (m x c k : ℕ) (e : Execution) → ltb k c ≡ false → placeSound r m x c k e ≡ true → e .number ≡ 0
 unfolding placeSound
+place-unused r m x c k e z p =
+    let a = and5 (eqb (e .number) 0) (eqb (e .id) 0) (eqb (e .called) 0) (eqb (e .mask) 0) (zeroBytes (e .digest) digestBytes) (rw z at p) in
+    eqb-true (e .number) 0 (a .0)
+
+place-low : (r : Roster) (m x c k : ℕ) (e : Execution) → placeSound r m x c k e ≡ true → e .number ≤ m
 place-low r m x c k e p =
     test (ltb k c)
     (λ z. order-low r m e (place-out r m x c k e (ltb-true k c z) p .order))
-    (λ z.
-    let a = and5 (eqb (e .number) 0) (eqb (e .id) 0) (eqb (e .called) 0) (eqb (e .mask) 0) (zeroBytes (e .digest) digestBytes) (rw z at p) in
-    omega (arith, eqb-true (e .number) 0 (a .0)))
+    (λ z. omega (arith, place-unused r m x c k e z p))
 
 -- the numbers of all executions
 pub numbers-out : (r : Roster) (m : ℕ) (ts : List Executions) → numbersSound ts m ≡ true → ((s : ℕ) → s < servers → Table r m s (getD ts s noTable))

@@ -16,3 +16,4 @@ pub mod Calling
 pub mod Proposing
 pub mod Multicasting
 pub mod Stepping
+pub mod Typed

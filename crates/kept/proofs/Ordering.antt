@@ -12,7 +12,6 @@ use borrow.Author.Tests.{eq-eqb, ne-eqb, eqb-true, eqb-false, ltb-true, lt-ltb, 
 use Rattle.search.specs.declared.Found.the-variants.{At}
 use Rattle.search.specs.Search.{isFound}
 use Rattle.search.proofs.Laws.{found-in}
-use Rattle.digest.specs.Digest.{digestBytes}
 use Rattle.world.specs.declared.roster.Roster.{Roster}
 use Rattle.world.specs.declared.execution.Execution.{Execution}
 use Rattle.world.specs.declared.execution.Executions.{Executions}
@@ -20,14 +19,13 @@ use Rattle.world.specs.declared.execution.Ordered.{Ordered}
 use Rattle.world.specs.Sizes.{servers, executionsMost}
 use Rattle.world.specs.Roster.{member, correct}
 use Rattle.world.specs.Executions.{noExecution, executionAt, executionOf, opened, called, ordered}
-use Rattle.soundness.specs.Zeros.{zeroBytes}
 use Rattle.soundness.specs.Sound.{orderSound, placeSound, newId, numberAt}
 use Rattle.soundness.proofs.Seats.{seat-own}
 use Rattle.rules.specs.declared.boxes.Boxes.{Boxes}
 use Rattle.rules.specs.Rules.{withExecutions, made, recorded}
-use Rattle.kept.proofs.Every.{either, same?, less?, sides-more, and2, and5, or-left, not-in, not-out, found-at, found-where, and-both, any-in, any-none, every-at, every-all}
+use Rattle.kept.proofs.Every.{either, same?, less?, sides-more, and2, or-left, not-in, not-out, found-at, found-where, and-both, any-in, any-none, every-at, every-all}
 use Rattle.kept.proofs.Counts.{Numbers, numbers-same, numbers-more}
-use Rattle.kept.proofs.Facts.{noTable, set-cases, Table, Made, place-in, place-out}
+use Rattle.kept.proofs.Facts.{noTable, set-cases, Table, Made, place-in, place-out, place-unused}
 use Rattle.kept.proofs.More.{Grows, place-more, entries-more, items-more}
 use Rattle.kept.proofs.Putting.{Fits, tables-grow}
 use Rattle.kept.proofs.Masking.{Orders, orders, ordered-id, opened-masks, called-masks}
@@ -85,14 +83,6 @@ module _ {r : Roster} {m x : ℕ} {t : Executions} (f : Table r m x t) where
   ids-differ : (j i : ℕ) → j < t .count → i < t .count → j ≢ i → executionAt t j .id ≢ executionAt t i .id
   ids-differ j i a b d =
       either (less? j i) (λ (l : j < i). older j i l b) (λ (l : i ≤ j). λ z. older i j (omega arith) a (sym z))
-
-  -- and a place that is not used has no number
-  unused-number : (k : ℕ) → t .count ≤ k → k < executionsMost → executionAt t k .number ≡ 0
-  unfolding placeSound
-  unused-number k a b =
-      let e = executionAt t k in
-      let p = and5 (eqb (e .number) 0) (eqb (e .id) 0) (eqb (e .called) 0) (eqb (e .mask) 0) (zeroBytes (e .digest) digestBytes) (rw (le-ltb k (t .count) a) at (f .places k b)) in
-      eqb-true (e .number) 0 (p .0)
 
 -- a table with one execution changed or made
 abbrev pub changed : Executions → ℕ → ℕ → Execution → Executions
@@ -225,7 +215,7 @@ module _ {r : Roster} {stored m : ℕ} {ts : List Executions} {server holder x :
       changed-fits c (c + 1) (opened x id digest) (ordered r (opened x id digest) (b .numbered))
       (orders r (b .numbered) x c (opened x id digest) (f .numbers .most) (opened-masks r x id digest seated mine) (λ z. absurd (z refl)) gapless)
       room (omega arith) (omega arith) (λ j d. sides-more j c d) (λ j p d. new j (omega arith))
-      (unused-number (f .table) c (omega arith) room) (λ z. absurd (omega arith))
+      (place-unused r (b .numbered) x c c _ (le-ltb c c (omega arith)) (f .table .places c room)) (λ z. absurd (omega arith))
 
   -- which can then be found
   pub made-found : (id : ℕ) (digest : List ℕ) → b .executions .count < executionsMost → isFound (executionOf (made r x id digest b .executions) id) ≡ true

@@ -1,5 +1,5 @@
 -- Start gives sound worlds and steps keep them so; so runs and rows of steps end in one. Assumes nothing.
-use mathlib.Core.Path.{_≡_, refl}
+use mathlib.Core.Path.{_≡_, refl, sym}
 use mathlib.Core.Bool.{true}
 use mathlib.Core.List.{List, [], _∷_}
 use Prim.Native.Nat.{ℕ, _-_, _+_, _<_, _≤_}
@@ -31,8 +31,8 @@ use Rattle.schedule.specs.Records.{Asked, Request, Multicast, Arrive, Propose, 
 use Rattle.schedule.specs.Judging.{scheduleMost, scanned, startJudged, recordsJudged, judged}
 use Rattle.rehearsal.specs.declared.stepping.Taken.{Taken}
 use Rattle.rehearsal.specs.Steps.{touch, boxesOf, putBack, stepOf, worldAfter}
-use Rattle.rehearsal.specs.Runs.{startOf, steppedBy, stepped, startWorld}
-use Rattle.kept.specs.Kept.{StartSound, StartShaped, StepSound, StepShaped, RunSound, steppedAll, RowSound}
+use Rattle.rehearsal.specs.Runs.{startOf, steppedBy, stepped, startWorld, withRoom, ranBy, ranOf}
+use Rattle.kept.specs.Kept.{StartSound, StartShaped, StepSound, StepShaped, RunSound, RanSound, steppedAll, RowSound}
 use Rattle.kept.proofs.Every.{musts, and4}
 use Rattle.kept.proofs.Facts.{FactsOf, world-out, world-in, world-shaped}
 use Rattle.kept.proofs.Start.{start-facts}
@@ -118,8 +118,11 @@ run-facts w (a ∷ l) f = run-facts (stepOf w a .world) l (step-facts w a f)
 abbrev Accepts : List ℕ → Verdict → Type 0
 Accepts s v = (k : ℕ) → v ≡ Accepted k → goodRoster (record { n = byteAt s 1; faulty = byteAt s 2 }) ≡ true
 
+never : {A : Type 0} {why : Refusal} {at k : ℕ} → Refused why at ≡ Accepted k → A
+never e = let z : _≡_ {A = ℕ} 0 1 = cc in absurd (omega arith)
+
 refused : (s : List ℕ) (why : Refusal) (at : ℕ) → Accepts s (Refused why at)
-refused s why at k e = let z : _≡_ {A = ℕ} 0 1 = cc in absurd (omega arith)
+refused s why at k e = never e
 
 module _ (s : List ℕ) where
   accepts-start : (v : Verdict) → Accepts s (startJudged s v)
@@ -139,6 +142,16 @@ module _ (s : List ℕ) where
 pub run-sound : RunSound
 run-sound s k e =
     world-in (worldAfter (startWorld s) (asked s)) (run-facts (startWorld s) (asked s) (start-facts (byteAt s 1) (byteAt s 2) (accepts s k e)))
+
+module _ (s : List ℕ) (room k : ℕ) where
+  ran-by : (v : Verdict) → v ≡ judged s → ranBy s (withRoom room v) .verdict ≡ Accepted k → sound (ranBy s (withRoom room v) .world) ≡ true
+  ran-by (Accepted j) e =
+      musts (λ (u : Verdict). ranBy s u .verdict ≡ Accepted k → sound (ranBy s u .world) ≡ true) (leb j room) _ _ (λ z. never z) (λ _ _. run-sound s j (sym e))
+  ran-by (Refused why at) e = λ z. never z
+
+pub ran-sound : RanSound
+unfolding ranOf
+ran-sound s room k e = ran-by s room k (judged s) refl e
 
 -- a row of public steps
 stepped-by : (w : World) (s : List ℕ) → FactsOf w → (v : Read) → FactsOf (steppedBy w s v .world)

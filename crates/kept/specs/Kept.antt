@@ -15,7 +15,7 @@ use Rattle.schedule.specs.declared.scanning.Verdict.the-variants.{Accepted}
 use Rattle.schedule.specs.Records.{Asked, asked}
 use Rattle.schedule.specs.Judging.{judged}
 use Rattle.rehearsal.specs.Steps.{stepOf, worldAfter}
-use Rattle.rehearsal.specs.Runs.{startOf, stepped, startWorld}
+use Rattle.rehearsal.specs.Runs.{startOf, stepped, startWorld, ranOf}
 
 -- every array of a world has the size that its type says
 pub record Shaped (w : World) : Type 0 where
@@ -46,6 +46,10 @@ StepShaped = (w : World) (a : Asked) → Shaped w → sound w ≡ true → Shape
 -- so the world at the end of every schedule that is not refused is sound
 abbrev pub RunSound : Type 0
 RunSound = (s : List ℕ) (k : ℕ) → judged s ≡ Accepted k → sound (worldAfter (startWorld s) (asked s)) ≡ true
+
+-- as `run` hands it back
+abbrev pub RanSound : Type 0
+RanSound = (s : List ℕ) (room k : ℕ) → ranOf s room .verdict ≡ Accepted k → sound (ranOf s room .world) ≡ true
 
 -- and so is the world behind a public start that answers 0 and any row of public steps, each by its bytes
 unfoldable pub steppedAll : World → List (List ℕ) → World
