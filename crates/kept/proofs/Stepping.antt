@@ -1,0 +1,179 @@
+-- Start gives sound worlds and steps keep them so; so runs and rows of steps end in one. Assumes nothing.
+use mathlib.Core.Path.{_≡_, refl, sym}
+use mathlib.Core.Bool.{true}
+use mathlib.Core.List.{List, [], _∷_}
+use Prim.Native.Nat.{ℕ, _-_, _+_, _<_, _≤_}
+use native.Mathlib.Omega.{arith}
+use lib.Count.{ones}
+use lib.Dec.{leb}
+use lib.ListN.{length}
+use borrow.Author.Tests.{ltb-true, leb-true}
+use Rattle.world.specs.declared.World.{World}
+use Rattle.world.specs.declared.roster.Roster.{Roster}
+use Rattle.world.specs.Sizes.{servers}
+use Rattle.world.specs.Roster.{member, faults, goodRoster}
+use Rattle.world.specs.Fresh.{freshWorld}
+use Rattle.world.specs.Outgoing.{packetAt}
+use Rattle.world.specs.Hold.{entryAt}
+use Rattle.world.specs.Boxes.{seat, outgoingOf, holdOf}
+use Rattle.soundness.specs.Sound.{sound}
+use Rattle.soundness.proofs.Seats.{seat-own, seated}
+use Rattle.rules.specs.declared.boxes.Boxes.{Boxes}
+use Rattle.schedule.specs.declared.kinds.Form.{Form}
+use Rattle.schedule.specs.declared.kinds.Form.the-variants.{Start, Step, Bad}
+use Rattle.schedule.specs.declared.reading.Refusal.{Refusal}
+use Rattle.schedule.specs.declared.reading.Read.{Read}
+use Rattle.schedule.specs.declared.reading.Read.the-variants as read
+use Rattle.schedule.specs.declared.scanning.Verdict.{Verdict}
+use Rattle.schedule.specs.declared.scanning.Verdict.the-variants.{Accepted, Refused}
+use Rattle.schedule.specs.Fields.{byteAt}
+use Rattle.schedule.specs.Records.{Asked, Request, Multicast, Arrive, Propose, Settle, Deliver, ForgePacket, ForgeSend, ForgeReceive, formOf, readAt, asked}
+use Rattle.schedule.specs.Judging.{scheduleMost, scanned, startJudged, recordsJudged, judged}
+use Rattle.rehearsal.specs.declared.stepping.Taken.{Taken}
+use Rattle.rehearsal.specs.Steps.{touch, boxesOf, putBack, stepOf, worldAfter}
+use Rattle.rehearsal.specs.Runs.{startOf, steppedBy, stepped, startWorld, withRoom, ranBy, ranOf}
+use Rattle.kept.specs.Kept.{StartSound, StartShaped, StepSound, StepShaped, RunSound, RanSound, steppedAll, RowSound}
+use Rattle.kept.proofs.Every.{musts, and4}
+use Rattle.kept.proofs.Facts.{FactsOf, world-out, world-in, world-shaped}
+use Rattle.kept.proofs.Start.{start-facts}
+use Rattle.kept.proofs.Putting.{Fits, boxes-fit, put-facts}
+use Rattle.kept.proofs.Requesting.{request-facts}
+use Rattle.kept.proofs.Delivering.{deliver-keeps}
+use Rattle.kept.proofs.Arriving.{arrive-keeps}
+use Rattle.kept.proofs.Forging.{forge-packet-keeps}
+use Rattle.kept.proofs.Calling.{forge-send-keeps, forge-receive-keeps}
+use Rattle.kept.proofs.Proposing.{propose-keeps, settle-keeps}
+use Rattle.kept.proofs.Multicasting.{multicast-keeps}
+
+few-servers : (r : Roster) → goodRoster r ≡ true → r .n ≤ servers
+few-servers r e = leb-true (r .n) servers (and4 (leb 1 (r .n)) (leb (r .n) servers) _ (leb (ones (r .faulty)) (faults r)) e .1)
+
+module _ (w : World) (f : FactsOf w) where
+  -- a server's name is its seat
+  at : (x : ℕ) → member (w .roster) x ≡ true → seat x ≡ x
+  at x e = let n = few-servers (w .roster) (f .roster) in seat-own x (omega (arith, ltb-true x (w .roster .n) e))
+
+  here : (x : ℕ) → seat x < servers
+  here x = seated x (seat x) refl
+
+  module _ (server holder sender slot : ℕ) where
+    fits : Fits (w .roster) (w .requests .count) (w .numbered) (w .executions) (seat server) (seat holder) (seat sender) (boxesOf w (touch server holder sender slot))
+    fits = boxes-fit w f (touch server holder sender slot) (here server) (here holder) (here sender)
+
+    kept-by : (b : Boxes) → Fits (w .roster) (w .requests .count) (w .numbered) (w .executions) (seat server) (seat holder) (seat sender) b
+        → FactsOf (putBack w (touch server holder sender slot) b)
+    kept-by b g = put-facts w f (touch server holder sender slot) (here server) (here holder) (here sender) b g
+
+pub step-facts : (w : World) (a : Asked) → FactsOf w → FactsOf (stepOf w a .world)
+unfolding stepOf
+step-facts w (Request client number seals command) f = request-facts w f client number seals command
+step-facts w (Multicast server slot) f =
+    kept-by w f server server server slot _
+    (multicast-keeps (f .all-tables) (here w f server) (fits w f server server server slot) server slot (at w f server))
+step-facts w (Arrive origin place) f =
+    let to = packetAt (outgoingOf w origin) place .to in
+    kept-by w f origin to origin 0 _
+    (arrive-keeps (fits w f origin to origin 0) origin place (at w f to))
+step-facts w (Propose server place) f =
+    let e = entryAt (holdOf w server) place in
+    kept-by w f server server (e .sender) (e .slot) _
+    (propose-keeps (few-servers (w .roster) (f .roster)) (f .all-tables) (fits w f server server (e .sender) (e .slot)) place refl server (here w f server) (at w f server))
+step-facts w (Settle server place) f =
+    let e = entryAt (holdOf w server) place in
+    kept-by w f server server (e .sender) (e .slot) _
+    (settle-keeps (few-servers (w .roster) (f .roster)) (f .all-tables) (fits w f server server (e .sender) (e .slot)) place refl server)
+step-facts w (Deliver server) f =
+    kept-by w f server server server 0 _
+    (deliver-keeps (fits w f server server server 0) server (at w f server))
+step-facts w (ForgePacket from to sender id slot) f =
+    kept-by w f from from from 0 _
+    (forge-packet-keeps (fits w f from from from 0) from to sender id slot (at w f from))
+step-facts w (ForgeSend server id digest) f =
+    kept-by w f server server server 0 _
+    (forge-send-keeps (f .all-tables) (here w f server) (fits w f server server server 0) server id digest (at w f server))
+step-facts w (ForgeReceive server sender id digest) f =
+    kept-by w f server server sender 0 _
+    (forge-receive-keeps (f .all-tables) (here w f server) (here w f sender)
+    (fits w f server server sender 0) server (at w f server) sender id digest (at w f sender))
+
+pub start-sound : StartSound
+start-sound n faulty e = world-in (freshWorld n faulty) (start-facts n faulty e)
+
+pub start-shaped : StartShaped
+start-shaped n faulty e = world-shaped (freshWorld n faulty) (start-facts n faulty e)
+
+pub step-sound : StepSound
+step-sound w a g e = world-in (stepOf w a .world) (step-facts w a (world-out w g e))
+
+pub step-shaped : StepShaped
+step-shaped w a g e = world-shaped (stepOf w a .world) (step-facts w a (world-out w g e))
+
+-- a run
+run-facts : (w : World) (l : List Asked) → FactsOf w → FactsOf (worldAfter w l)
+unfolding worldAfter
+run-facts w [] f = f
+run-facts w (a ∷ l) f = run-facts (stepOf w a .world) l (step-facts w a f)
+
+-- a schedule that is not refused has a good start
+abbrev Accepts : List ℕ → Verdict → Type 0
+Accepts s v = (k : ℕ) → v ≡ Accepted k → goodRoster (record { n = byteAt s 1; faulty = byteAt s 2 }) ≡ true
+
+never : {A : Type 0} {why : Refusal} {at k : ℕ} → Refused why at ≡ Accepted k → A
+never e = let z : _≡_ {A = ℕ} 0 1 = cc in absurd (omega arith)
+
+refused : (s : List ℕ) (why : Refusal) (at : ℕ) → Accepts s (Refused why at)
+refused s why at k e = never e
+
+module _ (s : List ℕ) where
+  accepts-start : (v : Verdict) → Accepts s (startJudged s v)
+  accepts-start (Accepted j) = musts (Accepts s) (goodRoster (record { n = byteAt s 1; faulty = byteAt s 2 })) _ _ (refused s _ _) (λ g _ _. g)
+  accepts-start (Refused why at) = refused s why at
+
+  accepts-form : (v : Form) → Accepts s (recordsJudged s v)
+  unfolding recordsJudged
+  accepts-form (Start body) = musts (Accepts s) (leb body (length s - 1)) _ _ (refused s _ _) (λ _. accepts-start (scanned s (1 + body)))
+  accepts-form (Step kind body) = refused s _ _
+  accepts-form Bad = refused s _ _
+
+  accepts : Accepts s (judged s)
+  unfolding judged
+  accepts = musts (Accepts s) (leb (length s) scheduleMost) _ _ (refused s _ _) (λ _. accepts-form (formOf (byteAt s 0)))
+
+pub run-sound : RunSound
+run-sound s k e =
+    world-in (worldAfter (startWorld s) (asked s)) (run-facts (startWorld s) (asked s) (start-facts (byteAt s 1) (byteAt s 2) (accepts s k e)))
+
+module _ (s : List ℕ) (room k : ℕ) where
+  ran-by : (v : Verdict) → v ≡ judged s → ranBy s (withRoom room v) .verdict ≡ Accepted k → sound (ranBy s (withRoom room v) .world) ≡ true
+  ran-by (Accepted j) e =
+      musts (λ (u : Verdict). ranBy s u .verdict ≡ Accepted k → sound (ranBy s u .world) ≡ true) (leb j room) _ _ (λ z. never z) (λ _ _. run-sound s j (sym e))
+  ran-by (Refused why at) e = λ z. never z
+
+pub ran-sound : RanSound
+unfolding ranOf
+ran-sound s room k e = ran-by s room k (judged s) refl e
+
+-- a row of public steps
+stepped-by : (w : World) (s : List ℕ) → FactsOf w → (v : Read) → FactsOf (steppedBy w s v .world)
+unfolding steppedBy
+stepped-by w s f (read.Record kind b next) = step-facts w _ f
+stepped-by w s f (read.Refused why) = f
+stepped-by w s f read.End = f
+
+stepped-facts : (w : World) (s : List ℕ) → FactsOf w → FactsOf (stepped w s .world)
+unfolding stepped
+stepped-facts w s f = musts (λ (v : Taken). FactsOf (v .world)) (sound w) _ _ f (λ _. stepped-by w s f (readAt s 0))
+
+row-facts : (w : World) (l : List (List ℕ)) → FactsOf w → FactsOf (steppedAll w l)
+unfolding steppedAll
+row-facts w [] f = f
+row-facts w (s ∷ l) f = row-facts (stepped w s .world) l (stepped-facts w s f)
+
+started : (n faulty : ℕ) → startOf n faulty .number ≡ 0 → FactsOf (startOf n faulty .world)
+unfolding startOf
+started n faulty =
+    musts (λ (v : Taken). v .number ≡ 0 → FactsOf (v .world)) (goodRoster (record { n = n; faulty = faulty })) _ _
+    (λ e. absurd (omega arith)) (λ g _. start-facts n faulty g)
+
+pub row-sound : RowSound
+row-sound n faulty l e = world-in (steppedAll (startOf n faulty .world) l) (row-facts (startOf n faulty .world) l (started n faulty e))
