@@ -55,3 +55,22 @@ number-long {l} {m} {k} {at} {n} {d} {e} h f p q =
     let w : Wrote l at (decimal (n / 10) ++ digit (n % 10) ∷ []) k e = then p q in
     let i : decimal n ≡ decimalIn 19 (n / 10) ++ digit (n % 10) ∷ [] = in-long 19 n h in
     number n (rw (i, s) w)
+
+-- no more digits than the number has
+in-digits : (p d n : ℕ) (t : Bool) → ltb n 10 ≡ t → n < 10 ^ suc d → length (decimalIn p n) ≤ suc d
+unfolding decimalIn
+in-digits zero d n t e h = omega arith
+in-digits (suc p) d n true e h = rw e (omega arith)
+in-digits (suc p) zero n false e h = absurd (omega (arith, ltb-false n 10 e))
+in-digits (suc p) (suc d) n false e h =
+    let k : n < 10 * 10 ^ suc d = omega (arith, h) in
+    rw (e, length-append) (omega (arith, in-digits p d (n / 10) (ltb (n / 10) 10) refl (omega arith)))
+
+pub three-digits : (n : ℕ) → n < 2 ^ 8 → length (decimal n) ≤ 3
+three-digits n h = in-digits digitsMost 2 n (ltb n 10) refl (omega arith)
+
+pub five-digits : (n : ℕ) → n < 10 ^ 5 → length (decimal n) ≤ 5
+five-digits n h = in-digits digitsMost 4 n (ltb n 10) refl (omega arith)
+
+pub ten-digits : (n : ℕ) → n < 2 ^ 32 → length (decimal n) ≤ 10
+ten-digits n h = in-digits digitsMost 9 n (ltb n 10) refl (omega arith)

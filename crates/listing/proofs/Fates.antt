@@ -1,12 +1,12 @@
 -- What a run's fate tells of the listing. Assumes nothing.
 use mathlib.Core.Path.{_≡_, refl, sym, ap, _∙_}
-use mathlib.Core.Bool.{Bool, true, false, not, _&&_}
+use mathlib.Core.Bool.{Bool, true, false, cond, not, _&&_}
 use mathlib.Core.List.{List, [], _∷_, _++_}
-use Prim.Native.Nat.{ℕ, zero, suc, _+_, _-_, _≤_, _<_}
+use Prim.Native.Nat.{ℕ, zero, suc, _+_, _-_, _*_, _≤_}
 use native.Mathlib.Omega.{arith}
 use borrow.Author.Tests.{leb-true}
 use lib.Count.{ones}
-use lib.Dec.{leb}
+use lib.Dec.{eqb, leb}
 use lib.ListN.{length, take, drop, length-append}
 use lib.Seq.{take-at}
 use Rattle.search.specs.Tests.{must}
@@ -15,6 +15,9 @@ use Rattle.world.specs.declared.roster.Roster.{Roster}
 use Rattle.world.specs.Sizes.{servers}
 use Rattle.world.specs.Roster.{strays, faults, goodRoster}
 use Rattle.world.specs.Fresh.{freshWorld}
+use Rattle.schedule.specs.declared.kinds.Act.the-variants as act
+use Rattle.schedule.specs.declared.kinds.Kind.{Kind}
+use Rattle.schedule.specs.declared.kinds.Kind.the-variants as kind
 use Rattle.schedule.specs.declared.kinds.Form.{Form}
 use Rattle.schedule.specs.declared.kinds.Form.the-variants.{Start, Step, Bad}
 use Rattle.schedule.specs.declared.reading.Refusal.{Refusal}
@@ -24,25 +27,69 @@ use Rattle.schedule.specs.declared.reading.Read.the-variants as read
 use Rattle.schedule.specs.declared.scanning.Verdict.{Verdict}
 use Rattle.schedule.specs.declared.scanning.Verdict.the-variants.{Accepted, Refused}
 use Rattle.schedule.specs.Fields.{byteAt}
-use Rattle.schedule.specs.Records.{formOf, readAt, Asked, Request, Multicast, Arrive, Propose, Settle, Deliver, ForgePacket, ForgeSend, ForgeReceive, askedBy, askedAfter, asked}
+use Rattle.schedule.proofs.Reader.{known}
+use Rattle.schedule.specs.Records.{formOf, readBy, readAt, Asked, Request, Multicast, Arrive, Propose, Settle, Deliver, ForgePacket, ForgeSend, ForgeReceive, askedBy, askedAfter, asked}
 use Rattle.schedule.specs.Judging.{refusalNumber, scheduleMost, scanned, startJudged, recordsJudged, judged}
 use Rattle.rehearsal.specs.declared.running.Ran.{Ran}
 use Rattle.rehearsal.specs.Steps.{stepOf, worldAfter, answersOf}
 use Rattle.rehearsal.specs.Runs.{withRoom, startWorld, ranBy, writtenBy, ranOf, writtenOf}
 use Rattle.rehearsal.proofs.Going.{judged-count}
+use Rattle.listing.specs.Longest.{recordBytesLeast}
 use Rattle.listing.specs.Listing.{refusedLine, runLines, listingBy, listingOf}
 
--- no more records than bytes
-few-by : (s : List ℕ) (x : Read) (fuel : ℕ) (more : ℕ → List Asked) → ((at : ℕ) → length (more at) ≤ fuel) → length (askedBy more s x) ≤ suc fuel
-unfolding askedBy
-few-by s (read.Record k b next) fuel more h = omega (arith, h next)
-few-by s (read.Refused why) fuel more h = omega arith
-few-by s read.End fuel more h = omega arith
+-- a record has two bytes at least: its kind, and a body of one or more
+body-by : (b : ℕ) (j : Kind) (t1 t2 t3 t4 t5 t6 t7 t8 t9 t10 : Bool)
+    → cond t1 (Start 2) (cond t2 (Step kind.Request 30) (cond t3 (Step (kind.Act act.Multicast) 2) (cond t4 (Step (kind.Act act.Arrive) 2) (cond t5 (Step (kind.Act act.Propose) 2) (cond t6 (Step (kind.Act act.Settle) 2) (cond t7 (Step (kind.Act act.Deliver) 1) (cond t8 (Step (kind.Act act.ForgePacket) 6) (cond t9 (Step (kind.Act act.ForgeSend) 35) (cond t10 (Step (kind.Act act.ForgeReceive) 36) Bad))))))))) ≡ Step j b
+    → 1 ≤ b
+body-by b j true t2 t3 t4 t5 t6 t7 t8 t9 t10 e = let z : _≡_ {A = ℕ} 0 1 = cc in omega arith
+body-by b j false true t3 t4 t5 t6 t7 t8 t9 t10 e = let z : 30 ≡ b = cc in omega arith
+body-by b j false false true t4 t5 t6 t7 t8 t9 t10 e = let z : 2 ≡ b = cc in omega arith
+body-by b j false false false true t5 t6 t7 t8 t9 t10 e = let z : 2 ≡ b = cc in omega arith
+body-by b j false false false false true t6 t7 t8 t9 t10 e = let z : 2 ≡ b = cc in omega arith
+body-by b j false false false false false true t7 t8 t9 t10 e = let z : 2 ≡ b = cc in omega arith
+body-by b j false false false false false false true t8 t9 t10 e = let z : 1 ≡ b = cc in omega arith
+body-by b j false false false false false false false true t9 t10 e = let z : 6 ≡ b = cc in omega arith
+body-by b j false false false false false false false false true t10 e = let z : 35 ≡ b = cc in omega arith
+body-by b j false false false false false false false false false true e = let z : 36 ≡ b = cc in omega arith
+body-by b j false false false false false false false false false false e = let z : _≡_ {A = ℕ} 0 1 = cc in omega arith
 
-few : (s : List ℕ) (fuel at : ℕ) → length (askedAfter s fuel at) ≤ fuel
+body : (k b : ℕ) (j : Kind) → formOf k ≡ Step j b → 1 ≤ b
+unfolding formOf
+body k b j e = body-by b j (eqb k 1) (eqb k 2) (eqb k 3) (eqb k 4) (eqb k 5) (eqb k 6) (eqb k 7) (eqb k 8) (eqb k 9) (eqb k 10) e
+
+two-fit : (at n b next : ℕ) (k j : Kind) (t : Bool) → 1 ≤ n → cond t (read.Record k (at + 1) (at + 1 + n)) (read.Refused Cut) ≡ read.Record j b next → at + 2 ≤ next
+two-fit at n b next k j true h r = let e : next ≡ at + 1 + n = cc in omega arith
+two-fit at n b next k j false h r = let z : _≡_ {A = ℕ} 0 1 = cc in omega arith
+
+two-form : (s : List ℕ) (at b next : ℕ) (j : Kind) (f : Form) → formOf (byteAt s at) ≡ f → readBy s at f ≡ read.Record j b next → at + 2 ≤ next
+unfolding readBy
+two-form s at b next j (Step k n) q r = two-fit at n b next k j (leb n (length s - (at + 1))) (body (byteAt s at) n k q) r
+two-form s at b next j (Start n) q r = let z : _≡_ {A = ℕ} 0 1 = cc in omega arith
+two-form s at b next j Bad q r = let z : _≡_ {A = ℕ} 0 1 = cc in omega arith
+
+two-end : (s : List ℕ) (at b next : ℕ) (j : Kind) (t : Bool) → cond t read.End (readBy s at (formOf (byteAt s at))) ≡ read.Record j b next → at + 2 ≤ next
+two-end s at b next j true r = let z : _≡_ {A = ℕ} 0 1 = cc in omega arith
+two-end s at b next j false r = two-form s at b next j (formOf (byteAt s at)) refl r
+
+two : (s : List ℕ) (at b next : ℕ) (j : Kind) → readAt s at ≡ read.Record j b next → at + 2 ≤ next
+unfolding readAt
+two s at b next j r = two-end s at b next j (leb (length s) at) r
+
+-- so there are no more records than half the bytes
+few-by : (s : List ℕ) (at : ℕ) (x : Read) (more : ℕ → List Asked) → readAt s at ≡ x → ((next : ℕ) → length (more next) * recordBytesLeast ≤ length s - next)
+    → length (askedBy more s x) * recordBytesLeast ≤ length s - at
+unfolding askedBy
+few-by s at (read.Record k b next) more e h =
+    let n : at + 2 ≤ next = two s at b next k e in
+    let i : next ≤ length s = known s at b next k e .inside in
+    omega (arith, h next)
+few-by s at (read.Refused why) more e h = omega arith
+few-by s at read.End more e h = omega arith
+
+few : (s : List ℕ) (fuel at : ℕ) → length (askedAfter s fuel at) * recordBytesLeast ≤ length s - at
 unfolding askedAfter
 few s zero at = omega arith
-few s (suc fuel) at = few-by s (readAt s at) fuel _ (few s fuel)
+few s (suc fuel) at = few-by s at (readAt s at) _ refl (few s fuel)
 
 -- an answer for each
 answers-length : (w : World) (l : List Asked) → length (answersOf w l) ≡ length l
@@ -137,12 +184,12 @@ fate s room r v e q = sym (ran-verdict s (withRoom room (judged s))) ∙ ap (λ 
 
 -- an accepted run of k records, with the answers as they are written
 pub record Accepts (s out now : List ℕ) (r : Ran) (k : ℕ) : Type 0 where
-  pub few : k ≤ scheduleMost
+  pub few : k * recordBytesLeast ≤ scheduleMost
   pub room : k ≤ length now
   pub seats : r .world .roster .n ≤ servers
   pub same : runLines k (take k now) (r .world) ≡ listingOf s (length out)
 
-accepts-by : (s out now : List ℕ) (r : Ran) (k : ℕ) (w : World) (given : List ℕ) → k ≤ scheduleMost → w .roster .n ≤ servers → length given ≡ k → r .world ≡ w → now ≡ given ++ drop k out
+accepts-by : (s out now : List ℕ) (r : Ran) (k : ℕ) (w : World) (given : List ℕ) → k * recordBytesLeast ≤ scheduleMost → w .roster .n ≤ servers → length given ≡ k → r .world ≡ w → now ≡ given ++ drop k out
     → runLines k given w ≡ listingOf s (length out) → Accepts s out now r k
 accepts-by s out now r k w given f n l ew ea q =
     let t : take k now ≡ given = rw ea (take-at given (drop k out) k l) in
@@ -166,7 +213,7 @@ accepted s out now r k e ea q =
     let g = judged-good s k (j .0) in
     let n : byteAt s 1 ≤ servers = good-n (rosterOf s) (g .0) in
     let ro : worldAfter (startWorld s) (asked s) .roster ≡ startWorld s .roster = roster-kept (startWorld s) (asked s) in
-    let f : length (asked s) ≤ length s = few s (length s) 3 in
+    let f : length (asked s) * recordBytesLeast ≤ length s - 3 = few s (length s) 3 in
     let d : length s ≤ scheduleMost = g .1 in
     accepts-by s out now r k (worldAfter (startWorld s) (asked s)) (answersOf (startWorld s) (asked s)) (omega arith) (rw (ro, start-n s) n) (answers-length (startWorld s) (asked s) ∙ sym c) (rw (e, v)) (rw (ea, v)) (listing-is s (length out) (Accepted k) v)
 

@@ -5,7 +5,7 @@ use Rattle.listing.proofs.list.Kinds as list-kinds
 use Rattle.listing.proofs.list.Reads as list-reads
 
 pub answers-settled : SettledBytes 3 list-kinds.ps list-kinds.r (λ κs e. e .1 .0 .now) list-reads.Post
-answers-settled κs a x y e f p q = (p .0 ∙ sym (q .0), p .1 .0 ∙ sym (q .1 .0))
+answers-settled κs a x y e f p q = (p .0 ∙ sym (q .0), p .1 .1 .0 ∙ sym (q .1 .1 .0))
 
 pub text-settled : SettledBytes 3 list-kinds.ps list-kinds.r (λ κs e. e .1 .1 .0 .now) list-reads.Post
-text-settled κs a x y e f p q = (p .0 ∙ sym (q .0), p .1 .1 ∙ sym (q .1 .1))
+text-settled κs a x y e f p q = (p .0 ∙ sym (q .0), p .1 .1 .1 ∙ sym (q .1 .1 .1))

@@ -1,10 +1,9 @@
 -- A text written into a lent buffer.
-use Prim.Native.Nat.{ℕ, _+_, _*_, _^_}
+use Prim.Native.Nat.{ℕ, _+_, _^_}
 use mathlib.Core.Path.{_≡_}
 use mathlib.Core.List.{List}
 use lib.ListN.{length}
 use lib.Seq.{sets}
-use Rattle.world.specs.Sizes.{servers, deliveredMost}
 
 -- the text stands in the buffer from `at` on, as far as it fits: `sets` stores its bytes one by one, and a byte past the buffer's end is not
 -- stored. All other bytes are as they were. `end` is the place behind the text, wherever the buffer ends.
@@ -12,25 +11,9 @@ pub record Wrote (buffer : List ℕ) (at : ℕ) (text : List ℕ) (after : List 
   pub ends : end ≡ at + length text
   pub bytes : after ≡ sets buffer at text
 
--- Bounds that keep every place far below what a number of the code can hold: of a number's digits (20 hold every number of 64 bits), of a line
--- without items, of an item with its blank, of the items of a server, and of a server's line.
+-- places are far below what a number of the code can hold, with room for a number's digits: 20 hold every number of 64 bits
 abbrev pub far : ℕ
 far = 2 ^ 60
 
 abbrev pub digitsMost : ℕ
 digitsMost = 20
-
-abbrev pub lineMost : ℕ
-lineMost = 128
-
-abbrev pub itemMost : ℕ
-itemMost = 64
-
-abbrev pub itemsMost : ℕ
-itemsMost = deliveredMost * itemMost
-
-abbrev pub serverMost : ℕ
-serverMost = lineMost + itemsMost
-
-abbrev pub serversMost : ℕ
-serversMost = servers * serverMost

@@ -1,10 +1,11 @@
 // The lines of the listing, each written at a place of the lent buffer. Each function answers the place behind its lines.
 ghost use mathlib.Core.Path.{_≡_};
-ghost use Prim.Native.Nat.{_+_, _*_, _≤_, _<_, min};
+ghost use Prim.Native.Nat.{_+_, _*_, _^_, _≤_, _<_, min};
 ghost use lib.ListN.{length, take};
 ghost use Rattle.world.specs.Sizes.{servers, deliveredMost};
 ghost use Rattle.schedule.specs.Judging.{scheduleMost};
-ghost use Rattle.listing.specs.Writing.{Wrote, far, lineMost, itemMost, itemsMost, serverMost, serversMost};
+ghost use Rattle.listing.specs.Writing.{Wrote};
+ghost use Rattle.listing.specs.Longest.{recordBytesLeast, worldMost, stepMost, itemMost, itemsMost, serverMost, serversMost, numberedMost, listingMost};
 ghost use Rattle.listing.specs.Listing.{refusedLine, worldLine, stepLine, stepLines, itemText, itemTexts, serverLine, serverLines, numberedLine, runLines};
 use crate::texts::put_byte;
 use crate::texts::put_number;
@@ -17,6 +18,7 @@ use world::World;
 // `refused NUMBER OFFSET`, alone.
 pub(crate) fn put_refused(text: &mut [u8], number: u8, offset: usize) -> usize
     ensures { λ r. ⌜ Wrote (now (text .entry)) 0 (refusedLine number offset) (now (text .exit)) r ⌝ }
+    ensures { λ r. ⌜ r ≤ listingMost ⌝ }
 {
     let at = put_word(text, 0, b"refused ");
     let at = put_number(text, at, number as usize);
@@ -27,8 +29,9 @@ pub(crate) fn put_refused(text: &mut [u8], number: u8, offset: usize) -> usize
 
 // `world N F T RECORDS`, the first line.
 fn put_world(text: &mut [u8], roster: Roster, records: usize) -> usize
+    requires { ⌜ records < 10 ^ 5 ⌝ }
     ensures { λ r. ⌜ Wrote (now (text .entry)) 0 (worldLine roster records) (now (text .exit)) r ⌝ }
-    ensures { λ r. ⌜ r ≤ lineMost ⌝ }
+    ensures { λ r. ⌜ r ≤ worldMost ⌝ }
 {
     let at = put_word(text, 0, b"world ");
     let at = put_number(text, at, roster.n as usize);
@@ -43,9 +46,10 @@ fn put_world(text: &mut [u8], roster: Roster, records: usize) -> usize
 
 // `step K ANSWER`
 fn put_step(text: &mut [u8], at: usize, k: usize, answer: u8) -> usize
-    requires { ⌜ at + lineMost < far ⌝ }
+    requires { ⌜ at ≤ listingMost ⌝ }
+    requires { ⌜ k < 10 ^ 5 ⌝ }
     ensures { λ r. ⌜ Wrote (now (text .entry)) at (stepLine k answer) (now (text .exit)) r ⌝ }
-    ensures { λ r. ⌜ r ≤ at + lineMost ⌝ }
+    ensures { λ r. ⌜ r ≤ at + stepMost ⌝ }
 {
     let at = put_word(text, at, b"step ");
     let at = put_number(text, at, k);
@@ -56,15 +60,16 @@ fn put_step(text: &mut [u8], at: usize, k: usize, answer: u8) -> usize
 
 // The lines of all steps, K from 1.
 fn put_steps(text: &mut [u8], at: usize, answers: &[u8], records: usize) -> usize
-    requires { ⌜ at + records * lineMost < far ⌝ }
+    requires { ⌜ at + records * stepMost ≤ listingMost ⌝ }
     requires { ⌜ records ≤ length (now answers) ⌝ }
     ensures { λ r. ⌜ Wrote (now (text .entry)) at (stepLines 1 (take records (now (answers .entry)))) (now (text .exit)) r ⌝ }
-    ensures { λ r. ⌜ r ≤ at + records * lineMost ⌝ }
+    ensures { λ r. ⌜ r ≤ at + records * stepMost ⌝ }
 {
     let mut end = at;
     let mut i: usize = 0;
     while i < records {
-        end = put_step(text, end, i + 1, answers[i]);
+        let k = i + 1;
+        end = put_step(text, end, k, answers[i]);
         i += 1;
     }
     end
@@ -72,7 +77,7 @@ fn put_steps(text: &mut [u8], at: usize, answers: &[u8], records: usize) -> usiz
 
 // SENDER.ID.SLOT, behind a blank.
 fn put_item(text: &mut [u8], at: usize, item: Item) -> usize
-    requires { ⌜ at + itemMost < far ⌝ }
+    requires { ⌜ at ≤ listingMost ⌝ }
     ensures { λ r. ⌜ Wrote (now (text .entry)) at (itemText item) (now (text .exit)) r ⌝ }
     ensures { λ r. ⌜ r ≤ at + itemMost ⌝ }
 {
@@ -98,7 +103,7 @@ fn shown(count: u32) -> usize
 
 // The items of a server.
 fn put_items(text: &mut [u8], at: usize, d: Delivered) -> usize
-    requires { ⌜ at + itemsMost < far ⌝ }
+    requires { ⌜ at + itemsMost ≤ listingMost ⌝ }
     ensures { λ r. ⌜ Wrote (now (text .entry)) at (itemTexts (take (d .count) (d .items))) (now (text .exit)) r ⌝ }
     ensures { λ r. ⌜ r ≤ at + itemsMost ⌝ }
 {
@@ -114,7 +119,7 @@ fn put_items(text: &mut [u8], at: usize, d: Delivered) -> usize
 
 // `server S faulty`, or `server S COUNT` and the items.
 fn put_server(text: &mut [u8], at: usize, roster: Roster, server: u8, d: Delivered) -> usize
-    requires { ⌜ at + serverMost < far ⌝ }
+    requires { ⌜ at + serverMost ≤ listingMost ⌝ }
     ensures { λ r. ⌜ Wrote (now (text .entry)) at (serverLine roster server d) (now (text .exit)) r ⌝ }
     ensures { λ r. ⌜ r ≤ at + serverMost ⌝ }
 {
@@ -131,7 +136,7 @@ fn put_server(text: &mut [u8], at: usize, roster: Roster, server: u8, d: Deliver
 
 // The lines of all servers, ascending.
 fn put_servers(text: &mut [u8], at: usize, w: World) -> usize
-    requires { ⌜ at + serversMost < far ⌝ }
+    requires { ⌜ at + serversMost ≤ listingMost ⌝ }
     requires { ⌜ w .roster .n ≤ servers ⌝ }
     ensures { λ r. ⌜ Wrote (now (text .entry)) at (serverLines w (w .roster .n)) (now (text .exit)) r ⌝ }
     ensures { λ r. ⌜ r ≤ at + serversMost ⌝ }
@@ -149,8 +154,9 @@ fn put_servers(text: &mut [u8], at: usize, w: World) -> usize
 
 // `numbered M`
 fn put_numbered(text: &mut [u8], at: usize, m: u32) -> usize
-    requires { ⌜ at + lineMost < far ⌝ }
+    requires { ⌜ at + numberedMost ≤ listingMost ⌝ }
     ensures { λ r. ⌜ Wrote (now (text .entry)) at (numberedLine m) (now (text .exit)) r ⌝ }
+    ensures { λ r. ⌜ r ≤ at + numberedMost ⌝ }
 {
     let at = put_word(text, at, b"numbered ");
     let at = put_number(text, at, m as usize);
@@ -159,10 +165,11 @@ fn put_numbered(text: &mut [u8], at: usize, m: u32) -> usize
 
 // All lines of a run.
 pub(crate) fn put_run(text: &mut [u8], answers: &[u8], records: usize, w: World) -> usize
-    requires { ⌜ records ≤ scheduleMost ⌝ }
+    requires { ⌜ records * recordBytesLeast ≤ scheduleMost ⌝ }
     requires { ⌜ records ≤ length (now answers) ⌝ }
     requires { ⌜ w .roster .n ≤ servers ⌝ }
     ensures { λ r. ⌜ Wrote (now (text .entry)) 0 (runLines records (take records (now (answers .entry))) w) (now (text .exit)) r ⌝ }
+    ensures { λ r. ⌜ r ≤ listingMost ⌝ }
 {
     let at = put_world(text, w.roster, records);
     let at = put_steps(text, at, answers, records);

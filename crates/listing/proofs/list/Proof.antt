@@ -27,22 +27,22 @@ same-length : tie.Need-same-length
 same-length c = c .before .before .before .before .before .before .before .before .before .before .before .run .kept .1 .0
 
 same-length-2 : tie.Need-same-length-2
-same-length-2 c = wrote-length (c .before .before .put-run .ensures)
+same-length-2 c = wrote-length (c .before .before .put-run .ensures .0)
 
 returns : tie.Need-returns
 returns c = let a = accepted (c .before .before .before .before .before .before .before .before .before .before .before .before .before .before .before .before .args .schedule .now) (c .before .before .before .before .before .before .before .before .before .before .before .before .before .before .before .before .args .answers .now) _ (c .before .before .before .before .before .before .before .before .before .before .before .run .result) _ (c .before .before .before .before .before .before .before .before .before .before .before .run .ensures .0) (c .before .before .before .before .before .before .before .before .before .before .before .run .ensures .1) (c .before .before .before .before .before .before .before .verdict .given .1) in
-    let t = listed _ (c .before .before .put-run .ensures) (a .same) in
-    (t .0, (c .before .before .before .before .before .before .before .before .before .before .before .run .ensures .1, t .1))
+    let t = listed _ (c .before .before .put-run .ensures .0) (a .same) in
+    (t .0, (c .before .before .put-run .ensures .1, (c .before .before .before .before .before .before .before .before .before .before .before .run .ensures .1, t .1)))
 
 same-length-3 : tie.Need-same-length-3
 same-length-3 c = c .before .before .before .before .before .before .before .before .before .before .run .kept .1 .0
 
 same-length-4 : tie.Need-same-length-4
-same-length-4 c = wrote-length (c .before .before .put-refused .ensures)
+same-length-4 c = wrote-length (c .before .before .put-refused .ensures .0)
 
 returns-2 : tie.Need-returns-2
-returns-2 c = let t = listed _ (rw (c .before .before .before .number .ensures) at (c .before .before .put-refused .ensures)) (refused (c .before .before .before .before .before .before .before .before .before .before .before .before .before .before .before .args .schedule .now) (c .before .before .before .before .before .before .before .before .before .before .before .before .before .before .before .args .answers .now) (c .before .before .before .before .before .before .before .before .before .before .run .result) _ _ (c .before .before .before .before .before .before .before .before .before .before .run .ensures .0) (c .before .before .before .before .before .before .verdict2 .given .1)) in
-    (t .0, (c .before .before .before .before .before .before .before .before .before .before .run .ensures .1, t .1))
+returns-2 c = let t = listed _ (rw (c .before .before .before .number .ensures) at (c .before .before .put-refused .ensures .0)) (refused (c .before .before .before .before .before .before .before .before .before .before .before .before .before .before .before .args .schedule .now) (c .before .before .before .before .before .before .before .before .before .before .before .before .before .before .before .args .answers .now) (c .before .before .before .before .before .before .before .before .before .before .run .result) _ _ (c .before .before .before .before .before .before .before .before .before .before .run .ensures .0) (c .before .before .before .before .before .before .verdict2 .given .1)) in
+    (t .0, (c .before .before .put-refused .ensures .1, (c .before .before .before .before .before .before .before .before .before .before .run .ensures .1, t .1)))
 
 pub list-spec : {M : Type 1} → statement M
 list-spec =

@@ -27,19 +27,16 @@ list-requires : tie.Need-list-requires
 list-requires c κs = search needs
 
 array-share-prefix-text : tie.Need-array-share-prefix-text
-array-share-prefix-text c = omega (arith, c .before .before .before .list .kept .1 .1 .0)
+array-share-prefix-text c = omega (arith, c .before .before .list .kept .1 .1 .0, c .before .before .list .ensures .1 .0)
 
 slice-aggregate-write-all : tie.Need-slice-aggregate-write-all
-slice-aggregate-write-all c = sym (length-take-le _ _ (omega (arith, c .before .before .before .before .list .kept .1 .1 .0)))
+slice-aggregate-write-all c = sym (length-take-le _ _ (omega (arith, c .before .before .before .list .kept .1 .1 .0, c .before .before .before .list .ensures .1 .0)))
 
 write-all-requires : tie.Need-write-all-requires
 write-all-requires c κs = search needs
 
 returns : tie.Need-returns
 returns c = search needs
-
-returns-2 : tie.Need-returns-2
-returns-2 c = search needs
 
 pub main-spec : {M : Type 1} → statement M
 main-spec =
@@ -55,5 +52,4 @@ main-spec =
     array-share-prefix-text
     slice-aggregate-write-all
     write-all-requires
-    returns
-    returns-2)
+    returns)

@@ -1,3 +1,4 @@
+use Rattle.listing.proofs.Decimals.{three-digits, five-digits}
 use native.Mathlib.Omega.{arith}
 use Rattle.listing.proofs.Placing.{then}
 use borrow.Author.Needs.{needs}
@@ -37,7 +38,18 @@ same-length c = search needs
 returns : tie.Need-returns
 returns c = (
   then (c .before .before .before .before .before .before .before .before .before .before .before .before .before .before .before .before .before .before .before .before .before .before .before .before .before .put-byte .ensures) (then (c .before .before .before .before .before .before .before .before .before .before .before .before .before .before .before .before .before .before .before .before .put-number .ensures .0) (then (c .before .before .before .before .before .before .before .before .before .before .before .before .before .before .before .before .put-byte2 .ensures) (then (c .before .before .before .before .before .before .before .before .before .before .before .put-number2 .ensures .0) (then (c .before .before .before .before .before .before .before .put-byte3 .ensures) (c .before .before .put-number3 .ensures .0))))),
-  omega (arith, c .before .before .put-number3 .ensures .1, c .before .before .before .before .before .before .before .put-byte3 .ensures .ends, c .before .before .before .before .before .before .before .before .before .before .before .put-number2 .ensures .1, c .before .before .before .before .before .before .before .before .before .before .before .before .before .before .before .before .put-byte2 .ensures .ends, c .before .before .before .before .before .before .before .before .before .before .before .before .before .before .before .before .before .before .before .before .put-number .ensures .1, c .before .before .before .before .before .before .before .before .before .before .before .before .before .before .before .before .before .before .before .before .before .before .before .before .before .put-byte .ensures .ends),
+  omega (
+    arith,
+    c .before .before .put-number3 .ensures .0 .ends,
+    c .before .before .before .before .before .before .before .put-byte3 .ensures .ends,
+    c .before .before .before .before .before .before .before .before .before .before .before .put-number2 .ensures .0 .ends,
+    c .before .before .before .before .before .before .before .before .before .before .before .before .before .before .before .before .put-byte2 .ensures .ends,
+    c .before .before .before .before .before .before .before .before .before .before .before .before .before .before .before .before .before .before .before .before .put-number .ensures .0 .ends,
+    c .before .before .before .before .before .before .before .before .before .before .before .before .before .before .before .before .before .before .before .before .before .before .before .before .before .put-byte .ensures .ends,
+    three-digits (c .before .before .before .before .before .before .before .before .before .before .before .before .before .before .before .before .before .before .before .before .before .before .before .before .before .before .before .before .args .item .sender) (omega (arith, c .before .before .before .before .before .before .before .before .before .before .before .before .before .before .before .before .before .before .before .before .before .struct-known)),
+    five-digits (c .before .before .before .before .before .before .before .before .before .before .before .before .before .before .before .before .before .before .before .before .before .before .before .before .before .before .before .before .args .item .id) (omega (arith, c .before .before .before .before .before .before .before .before .before .before .before .before .struct-known2)),
+    three-digits (c .before .before .before .before .before .before .before .before .before .before .before .before .before .before .before .before .before .before .before .before .before .before .before .before .before .before .before .before .args .item .slot) (omega (arith, c .before .before .before .struct-known3)),
+  ),
 )
 
 pub put-item-spec : {M : Type 1} → statement M

@@ -1,10 +1,11 @@
+use Rattle.listing.specs.Longest.{itemMost}
 use borrow.Author.Needs.{needs}
 use Prim.Native.Nat.{_+_, _-_, _*_, _≤_}
 use native.Mathlib.Omega.{arith}
 use mathlib.Core.Path.{_≡_, refl, _∙_}
 use lib.ListN.{length, take}
 use Rattle.world.proofs.Typed.{delivered-items}
-use Rattle.listing.specs.Writing.{Wrote, itemMost}
+use Rattle.listing.specs.Writing.{Wrote}
 use Rattle.listing.specs.Listing.{itemTexts}
 use Rattle.listing.proofs.Placing.{wrote-length}
 use Rattle.listing.proofs.Rows.{items-none, items-more, items-all}

@@ -1,3 +1,5 @@
+use native.Mathlib.Omega.{arith}
+use Rattle.listing.proofs.Decimals.{ten-digits}
 use Rattle.listing.proofs.Placing.{then}
 use borrow.Author.Needs.{needs}
 use Rattle.listing.proofs.lines.put_numbered.Statement.{statement}
@@ -19,7 +21,10 @@ same-length : tie.Need-same-length
 same-length c = search needs
 
 returns : tie.Need-returns
-returns c = then (c .before .before .before .before .before .before .before .before .before .before .put-word .ensures) (then (c .before .before .before .before .before .before .put-number .ensures .0) (c .before .before .put-byte .ensures))
+returns c = (
+  then (c .before .before .before .before .before .before .before .before .before .before .put-word .ensures) (then (c .before .before .before .before .before .before .put-number .ensures .0) (c .before .before .put-byte .ensures)),
+  omega (arith, c .before .before .put-byte .ensures .ends, c .before .before .before .before .before .before .put-number .ensures .0 .ends, c .before .before .before .before .before .before .before .before .before .before .put-word .ensures .ends, ten-digits (c .before .before .before .before .before .before .before .before .before .before .before .before .before .before .args .m) (c .before .before .before .before .before .before .before .before .before .before .before .before .before .before .fits .m .fits)),
+)
 
 pub put-numbered-spec : {M : Type 1} → statement M
 put-numbered-spec =

@@ -1,3 +1,4 @@
+use Rattle.listing.proofs.Decimals.{three-digits, ten-digits}
 use mathlib.Core.Path.{sym, _∙_}
 use native.Mathlib.Omega.{arith}
 use Rattle.listing.proofs.Placing.{then}
@@ -29,7 +30,7 @@ same-length c = search needs
 returns : tie.Need-returns
 returns c = (
   rw (sym (c .before .before .before .before .before .before .is-faulty .ensures) ∙ c .before .before .before .before .before .if1 .taken) (then (c .before .before .before .before .before .before .before .before .before .before .before .before .before .put-word .ensures) (then (c .before .before .before .before .before .before .before .before .before .put-number .ensures .0) (c .before .before .put-word2 .ensures))),
-  omega (arith, c .before .before .put-word2 .ensures .ends, c .before .before .before .before .before .before .before .before .before .put-number .ensures .1, c .before .before .before .before .before .before .before .before .before .before .before .before .before .put-word .ensures .ends),
+  omega (arith, c .before .before .put-word2 .ensures .ends, c .before .before .before .before .before .before .before .before .before .put-number .ensures .0 .ends, c .before .before .before .before .before .before .before .before .before .before .before .before .before .put-word .ensures .ends, three-digits (c .before .before .before .before .before .before .before .before .before .before .before .before .before .before .before .before .before .args .server) (c .before .before .before .before .before .before .before .before .before .before .before .before .before .before .before .before .before .fits .server .fits)),
 )
 
 put-byte-requires : tie.Need-put-byte-requires
@@ -42,7 +43,7 @@ put-number-requires-2 : tie.Need-put-number-requires-2
 put-number-requires-2 c κs = search needs
 
 put-items-requires : tie.Need-put-items-requires
-put-items-requires c κs = search needs
+put-items-requires c κs = omega (arith, c .before .before .before .put-number2 .ensures .0 .ends, c .before .before .before .before .before .before .before .before .put-byte .ensures .ends, c .before .before .before .before .before .before .before .before .before .before .before .before .before .before .put-number .ensures .0 .ends, c .before .before .before .before .before .before .before .before .before .before .before .before .before .before .before .before .before .before .put-word .ensures .ends, three-digits (c .before .before .before .before .before .before .before .before .before .before .before .before .before .before .before .before .before .before .before .before .before .before .args .server) (c .before .before .before .before .before .before .before .before .before .before .before .before .before .before .before .before .before .before .before .before .before .before .fits .server .fits), ten-digits (c .before .before .before .before .before .before .before .before .before .before .before .before .before .before .before .before .before .before .before .before .before .before .args .d .count) (omega (arith, c .before .before .before .before .struct-known)), c .before .before .before .before .before .before .before .before .before .before .before .before .before .before .before .before .before .before .before .before .before .before .pre)
 
 put-byte-requires-2 : tie.Need-put-byte-requires-2
 put-byte-requires-2 c κs = search needs
@@ -53,7 +54,7 @@ same-length-2 c = search needs
 returns-2 : tie.Need-returns-2
 returns-2 c = (
   rw (sym (c .before .before .before .before .before .before .before .before .before .before .before .before .before .before .before .before .before .before .is-faulty .ensures) ∙ c .before .before .before .before .before .before .before .before .before .before .before .before .before .before .before .before .before .if1 .left) (then (c .before .before .before .before .before .before .before .before .before .before .before .before .before .before .before .before .before .before .before .before .before .before .before .before .before .put-word .ensures) (then (c .before .before .before .before .before .before .before .before .before .before .before .before .before .before .before .before .before .before .before .before .before .put-number .ensures .0) (then (c .before .before .before .before .before .before .before .before .before .before .before .before .before .before .before .put-byte .ensures) (then (c .before .before .before .before .before .before .before .before .before .before .put-number2 .ensures .0) (then (c .before .before .before .before .before .before .put-items .ensures .0) (c .before .before .put-byte2 .ensures)))))),
-  omega (arith, c .before .before .put-byte2 .ensures .ends, c .before .before .before .before .before .before .put-items .ensures .1, c .before .before .before .before .before .before .before .before .before .before .put-number2 .ensures .1, c .before .before .before .before .before .before .before .before .before .before .before .before .before .before .before .put-byte .ensures .ends, c .before .before .before .before .before .before .before .before .before .before .before .before .before .before .before .before .before .before .before .before .before .put-number .ensures .1, c .before .before .before .before .before .before .before .before .before .before .before .before .before .before .before .before .before .before .before .before .before .before .before .before .before .put-word .ensures .ends),
+  omega (arith, c .before .before .put-byte2 .ensures .ends, c .before .before .before .before .before .before .put-items .ensures .1, c .before .before .before .before .before .before .before .before .before .before .put-number2 .ensures .0 .ends, c .before .before .before .before .before .before .before .before .before .before .before .before .before .before .before .put-byte .ensures .ends, c .before .before .before .before .before .before .before .before .before .before .before .before .before .before .before .before .before .before .before .before .before .put-number .ensures .0 .ends, c .before .before .before .before .before .before .before .before .before .before .before .before .before .before .before .before .before .before .before .before .before .before .before .before .before .put-word .ensures .ends, three-digits (c .before .before .before .before .before .before .before .before .before .before .before .before .before .before .before .before .before .before .before .before .before .before .before .before .before .before .before .before .before .args .server) (c .before .before .before .before .before .before .before .before .before .before .before .before .before .before .before .before .before .before .before .before .before .before .before .before .before .before .before .before .before .fits .server .fits), ten-digits (c .before .before .before .before .before .before .before .before .before .before .before .before .before .before .before .before .before .before .before .before .before .before .before .before .before .before .before .before .before .args .d .count) (omega (arith, c .before .before .before .before .before .before .before .before .before .before .before .struct-known))),
 )
 
 pub put-server-spec : {M : Type 1} → statement M

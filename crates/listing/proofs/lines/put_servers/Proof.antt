@@ -1,9 +1,10 @@
+use Rattle.listing.specs.Longest.{serverMost}
 use Rattle.listing.proofs.Rows.{servers-none, servers-more, servers-all}
 use borrow.Author.Needs.{needs}
 use Prim.Native.Nat.{_+_, _-_, _*_, _≤_}
 use native.Mathlib.Omega.{arith}
 use mathlib.Core.Path.{_≡_, refl, _∙_}
-use Rattle.listing.specs.Writing.{Wrote, serverMost}
+use Rattle.listing.specs.Writing.{Wrote}
 use Rattle.listing.specs.Listing.{serverLines}
 use Rattle.listing.proofs.Placing.{wrote-length}
 use Rattle.listing.proofs.lines.put_servers.Statement.{statement}

@@ -1,3 +1,4 @@
+use Rattle.listing.proofs.Decimals.{three-digits, five-digits}
 use native.Mathlib.Omega.{arith}
 use Rattle.listing.proofs.Placing.{then}
 use borrow.Author.Needs.{needs}
@@ -28,7 +29,7 @@ same-length c = search needs
 returns : tie.Need-returns
 returns c = (
   then (c .before .before .before .before .before .before .before .before .before .before .before .before .before .before .before .before .before .before .put-word .ensures) (then (c .before .before .before .before .before .before .before .before .before .before .before .before .before .before .put-number .ensures .0) (then (c .before .before .before .before .before .before .before .before .before .before .put-byte .ensures) (then (c .before .before .before .before .before .before .put-number2 .ensures .0) (c .before .before .put-byte2 .ensures)))),
-  omega (arith, c .before .before .put-byte2 .ensures .ends, c .before .before .before .before .before .before .put-number2 .ensures .1, c .before .before .before .before .before .before .before .before .before .before .put-byte .ensures .ends, c .before .before .before .before .before .before .before .before .before .before .before .before .before .before .put-number .ensures .1, c .before .before .before .before .before .before .before .before .before .before .before .before .before .before .before .before .before .before .put-word .ensures .ends),
+  omega (arith, c .before .before .put-byte2 .ensures .ends, c .before .before .before .before .before .before .put-number2 .ensures .0 .ends, c .before .before .before .before .before .before .before .before .before .before .put-byte .ensures .ends, c .before .before .before .before .before .before .before .before .before .before .before .before .before .before .put-number .ensures .0 .ends, c .before .before .before .before .before .before .before .before .before .before .before .before .before .before .before .before .before .before .put-word .ensures .ends, five-digits (c .before .before .before .before .before .before .before .before .before .before .before .before .before .before .before .before .before .before .before .before .before .before .args .k) (c .before .before .before .before .before .before .before .before .before .before .before .before .before .before .before .before .before .before .before .before .before .before .pre .1), three-digits (c .before .before .before .before .before .before .before .before .before .before .before .before .before .before .before .before .before .before .before .before .before .before .args .answer) (c .before .before .before .before .before .before .before .before .before .before .before .before .before .before .before .before .before .before .before .before .before .before .fits .answer .fits)),
 )
 
 pub put-step-spec : {M : Type 1} → statement M

@@ -1,9 +1,10 @@
+use Rattle.listing.specs.Longest.{stepMost}
 use borrow.Author.Needs.{needs}
 use Prim.Native.Nat.{_+_, _-_, _*_, _≤_}
 use native.Mathlib.Omega.{arith}
 use mathlib.Core.Path.{_≡_}
 use lib.ListN.{length, take}
-use Rattle.listing.specs.Writing.{Wrote, lineMost}
+use Rattle.listing.specs.Writing.{Wrote}
 use Rattle.listing.specs.Listing.{stepLines}
 use Rattle.listing.proofs.Placing.{wrote-length}
 use Rattle.listing.proofs.Rows.{steps-none, steps-more}
@@ -11,7 +12,7 @@ use Rattle.listing.proofs.lines.put_steps.Statement.{statement}
 use Rattle.listing.proofs.lines.put_steps.Tie as tie
 
 abbrev Inv-loop : tie.InvT-loop
-Inv-loop text₀ at answers records end₀ i₀ text end i = (i ≤ records) × ((end ≤ at + i * lineMost) × Wrote text₀ at (stepLines 1 (take i answers)) text end)
+Inv-loop text₀ at answers records end₀ i₀ text end i = (i ≤ records) × ((end ≤ at + i * stepMost) × Wrote text₀ at (stepLines 1 (take i answers)) text end)
 
 abbrev μ-loop : tie.MeasureT-loop
 μ-loop text₀ at answers records end₀ i₀ text end i = records - i
@@ -19,14 +20,14 @@ abbrev μ-loop : tie.MeasureT-loop
 loop-holds : tie.Need-loop-holds Inv-loop μ-loop
 loop-holds c = (search needs, (omega arith, steps-none _ _))
 
-add-put-step : tie.Need-add-put-step Inv-loop μ-loop
-add-put-step c = search needs
+add-k : tie.Need-add-k Inv-loop μ-loop
+add-k c = search needs
 
 shared-slice-read-put-step : tie.Need-shared-slice-read-put-step Inv-loop μ-loop
 shared-slice-read-put-step c = search needs
 
 put-step-requires : tie.Need-put-step-requires Inv-loop μ-loop
-put-step-requires c κs = search needs
+put-step-requires c κs = (omega (arith, c .before .before .before .loop .inv .1 .0, c .before .before .before .before .before .before .pre .0), omega (arith, c .before .before .before .before .before .before .pre .0))
 
 add-i : tie.Need-add-i Inv-loop μ-loop
 add-i c = search needs
@@ -51,7 +52,7 @@ put-steps-spec =
     Inv-loop
     μ-loop
     loop-holds
-    add-put-step
+    add-k
     shared-slice-read-put-step
     put-step-requires
     add-i

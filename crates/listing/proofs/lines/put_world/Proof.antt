@@ -1,3 +1,4 @@
+use Rattle.listing.proofs.Decimals.{three-digits, five-digits, ten-digits}
 use native.Mathlib.Omega.{arith}
 use mathlib.Core.Path.{_∙_}
 use Rattle.listing.proofs.Placing.{then, wrote-length}
@@ -56,7 +57,22 @@ same-length c = wrote-length (c .before .before .put-byte4 .ensures) ∙ wrote-l
 returns : tie.Need-returns
 returns c = (
   then (c .before .before .before .before .before .before .before .before .before .before .before .before .before .before .before .before .before .before .before .before .before .before .before .before .before .before .before .before .before .before .before .before .before .before .before .before .before .put-word .ensures) (then (c .before .before .before .before .before .before .before .before .before .before .before .before .before .before .before .before .before .before .before .before .before .before .before .before .before .before .before .before .before .before .before .before .put-number .ensures .0) (then (c .before .before .before .before .before .before .before .before .before .before .before .before .before .before .before .before .before .before .before .before .before .before .before .before .before .before .before .before .put-byte .ensures) (then (rw (c .before .before .before .before .before .before .before .before .before .before .before .before .before .before .before .before .before .before .before .before .before .before .before .before .faults .ensures) at (c .before .before .before .before .before .before .before .before .before .before .before .before .before .before .before .before .before .before .before .before .before .before .before .put-number2 .ensures .0)) (then (c .before .before .before .before .before .before .before .before .before .before .before .before .before .before .before .before .before .before .before .put-byte2 .ensures) (then (rw (c .before .before .before .before .before .before .before .before .before .before .before .before .before .before .before .threshold .ensures) at (c .before .before .before .before .before .before .before .before .before .before .before .before .before .before .put-number3 .ensures .0)) (then (c .before .before .before .before .before .before .before .before .before .before .put-byte3 .ensures) (then (c .before .before .before .before .before .before .put-number4 .ensures .0) (c .before .before .put-byte4 .ensures)))))))),
-  omega (arith, c .before .before .put-byte4 .ensures .ends, c .before .before .before .before .before .before .put-number4 .ensures .1, c .before .before .before .before .before .before .before .before .before .before .put-byte3 .ensures .ends, c .before .before .before .before .before .before .before .before .before .before .before .before .before .before .put-number3 .ensures .1, c .before .before .before .before .before .before .before .before .before .before .before .before .before .before .before .before .before .before .before .put-byte2 .ensures .ends, c .before .before .before .before .before .before .before .before .before .before .before .before .before .before .before .before .before .before .before .before .before .before .before .put-number2 .ensures .1, c .before .before .before .before .before .before .before .before .before .before .before .before .before .before .before .before .before .before .before .before .before .before .before .before .before .before .before .before .put-byte .ensures .ends, c .before .before .before .before .before .before .before .before .before .before .before .before .before .before .before .before .before .before .before .before .before .before .before .before .before .before .before .before .before .before .before .before .put-number .ensures .1, c .before .before .before .before .before .before .before .before .before .before .before .before .before .before .before .before .before .before .before .before .before .before .before .before .before .before .before .before .before .before .before .before .before .before .before .before .before .put-word .ensures .ends),
+  omega (
+    arith,
+    c .before .before .put-byte4 .ensures .ends,
+    c .before .before .before .before .before .before .put-number4 .ensures .0 .ends,
+    c .before .before .before .before .before .before .before .before .before .before .put-byte3 .ensures .ends,
+    c .before .before .before .before .before .before .before .before .before .before .before .before .before .before .put-number3 .ensures .0 .ends,
+    c .before .before .before .before .before .before .before .before .before .before .before .before .before .before .before .before .before .before .before .put-byte2 .ensures .ends,
+    c .before .before .before .before .before .before .before .before .before .before .before .before .before .before .before .before .before .before .before .before .before .before .before .put-number2 .ensures .0 .ends,
+    c .before .before .before .before .before .before .before .before .before .before .before .before .before .before .before .before .before .before .before .before .before .before .before .before .before .before .before .before .put-byte .ensures .ends,
+    c .before .before .before .before .before .before .before .before .before .before .before .before .before .before .before .before .before .before .before .before .before .before .before .before .before .before .before .before .before .before .before .before .put-number .ensures .0 .ends,
+    c .before .before .before .before .before .before .before .before .before .before .before .before .before .before .before .before .before .before .before .before .before .before .before .before .before .before .before .before .before .before .before .before .before .before .before .before .before .put-word .ensures .ends,
+    three-digits (c .before .before .before .before .before .before .before .before .before .before .before .before .before .before .before .before .before .before .before .before .before .before .before .before .before .before .before .before .before .before .before .before .before .before .before .before .before .before .before .before .before .args .roster .n) (omega (arith, c .before .before .before .before .before .before .before .before .before .before .before .before .before .before .before .before .before .before .before .before .before .before .before .before .before .before .before .before .before .before .before .before .before .struct-known)),
+    three-digits (c .before .before .before .before .before .before .before .before .before .before .before .before .before .before .before .before .before .before .before .before .before .before .before .before .faults .result) (omega (arith, c .before .before .before .before .before .before .before .before .before .before .before .before .before .before .before .before .before .before .before .before .before .before .before .before .faults)),
+    ten-digits (c .before .before .before .before .before .before .before .before .before .before .before .before .before .before .before .threshold .result) (omega (arith, c .before .before .before .before .before .before .before .before .before .before .before .before .before .before .before .threshold)),
+    five-digits (c .before .before .before .before .before .before .before .before .before .before .before .before .before .before .before .before .before .before .before .before .before .before .before .before .before .before .before .before .before .before .before .before .before .before .before .before .before .before .before .before .before .args .records) (c .before .before .before .before .before .before .before .before .before .before .before .before .before .before .before .before .before .before .before .before .before .before .before .before .before .before .before .before .before .before .before .before .before .before .before .before .before .before .before .before .before .pre),
+  ),
 )
 
 pub put-world-spec : {M : Type 1} → statement M
