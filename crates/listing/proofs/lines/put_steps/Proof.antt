@@ -36,7 +36,7 @@ loop-less : tie.Need-loop-less Inv-loop μ-loop
 loop-less c = search needs
 
 loop-again : tie.Need-loop-again Inv-loop μ-loop
-loop-again c = (search needs, (omega (arith, c .before .before .put-step .ensures .1, c .before .before .before .before .before .before .loop .inv .1 .0), steps-more _ _ _ _ _ _ _ _ (omega (arith, c .before .before .before .before .before .before .before .before .before .pre)) (c .before .before .before .before .before .before .loop .inv .1 .1) (c .before .before .put-step .ensures .0)))
+loop-again c = (search needs, (omega (arith, c .before .before .put-step .ensures .1, c .before .before .before .before .before .before .loop .inv .1 .0), steps-more _ _ _ (c .before .before .before .before .before .before .before .before .before .args .answers .now) _ (c .before .before .before .before .before .before .loop .i) _ _ (omega (arith, c .before .before .before .before .before .before .before .before .before .pre)) (c .before .before .before .before .before .before .loop .inv .1 .1) (c .before .before .put-step .ensures .0)))
 
 same-length : tie.Need-same-length Inv-loop μ-loop
 same-length c = wrote-length (c .before .loop .inv .1 .1)
