@@ -1,2 +1,5 @@
 pub mod Invariant
 pub mod Moves
+pub mod Keeping
+pub mod Entries
+pub mod Packets
