@@ -1,3 +1,6 @@
 pub mod Invariant
 pub mod Moves
 pub mod Digests
+pub mod Lists
+pub mod Small
+pub mod Pigeon
