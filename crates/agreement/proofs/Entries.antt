@@ -66,9 +66,9 @@ module _ {r : Roster} {q : Requests} {ts : List Executions} {os : List Outgoing}
         set-cases (λ y. P o y) hs p o (put (holdAt hs p) z e) noEntries seated (λ (w : o ≡ p). rw w here) (λ _. else o)
 
     module _ (second : (s k sl : ℕ) → Made ts s k → Matches q sl (made ts s k) → Of (entryAt (holdAt hs p) z) 2 s (made ts s k .id) sl
-            → Of e 2 s (made ts s k .id) sl ⊎ Done (made ts s k) (doneAt ds p))
+        → Of e 2 s (made ts s k .id) sl ⊎ Done (made ts s k) (doneAt ds p))
         (first : (s k sl : ℕ) → Made ts s k → Matches q sl (made ts s k) → Of (entryAt (holdAt hs p) z) 1 s (made ts s k .id) sl
-            → Of e 1 s (made ts s k .id) sl ⊎ (Done (made ts s k) (doneAt ds p) ⊎ (has (made ts s k .called) p ≡ true)))
+        → Of e 1 s (made ts s k .id) sl ⊎ (Done (made ts s k) (doneAt ds p) ⊎ (has (made ts s k .called) p ≡ true)))
         (third : 3 ≤ e .stage → Belongs q ts (e .sender) (e .id) (e .slot) (e .number))
         (cause : (s k sl : ℕ) → Made ts s k → Matches q sl (made ts s k) → Of e 3 s (made ts s k .id) sl → Spread r os now ds s (made ts s k) sl) where
       pub entry-put : Inv r q ts os (set hs p (put (holdAt hs p) z e)) ds
@@ -84,7 +84,7 @@ module _ {r : Roster} {q : Requests} {ts : List Executions} {os : List Outgoing}
           (λ o s k sl ok m g.
           held-cases
           (λ o y. Holds (holdAt hs o) 1 s (made ts s k .id) sl
-              → Holds y 1 s (made ts s k .id) sl ⊎ (Done (made ts s k) (doneAt ds o) ⊎ (has (made ts s k .called) o ≡ true)))
+          → Holds y 1 s (made ts s k .id) sl ⊎ (Done (made ts s k) (doneAt ds o) ⊎ (has (made ts s k .called) o ≡ true)))
           (λ h. either (put-keeps (holdAt hs p) z e size inside 1 s _ sl h)
           (λ y. inl y)
           (λ y. either (first s k sl m g y) (λ n. inl (put-holds (holdAt hs p) z e size inside 1 s _ sl n)) (λ n. inr n)))
@@ -124,7 +124,7 @@ module _ {r : Roster} {q : Requests} {ts : List Executions} {os : List Outgoing}
 
   -- an entry that goes: its execution has another digest, or it is delivered, or it is at stage one and its server has called
   pub entry-freed : ((s k sl : ℕ) → Made ts s k → Matches q sl (made ts s k) → Of (entryAt (holdAt hs p) z) 1 s (made ts s k .id) sl
-          → Done (made ts s k) (doneAt ds p) ⊎ ((entryAt (holdAt hs p) z .stage ≡ 1) × (has (made ts s k .called) p ≡ true)))
+      → Done (made ts s k) (doneAt ds p) ⊎ ((entryAt (holdAt hs p) z .stage ≡ 1) × (has (made ts s k .called) p ≡ true)))
       → Inv r q ts os (set hs p (freed (holdAt hs p) z)) ds
   entry-freed why =
       entry-put freeEntry

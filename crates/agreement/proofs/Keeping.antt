@@ -62,12 +62,12 @@ module _ {r : Roster} {q : Requests} {ts : List Executions} {os : List Outgoing}
   -- entries: one that goes was delivered, or its server has called before
   module _ (ns : List Hold)
       (second : (p s k sl : ℕ) → Correct r p → Made ts s k → Matches q sl (made ts s k) → Holds (holdAt hs p) 2 s (made ts s k .id) sl
-          → Holds (holdAt ns p) 2 s (made ts s k .id) sl ⊎ Done (made ts s k) (doneAt ds p))
+      → Holds (holdAt ns p) 2 s (made ts s k .id) sl ⊎ Done (made ts s k) (doneAt ds p))
       (first : (p s k sl : ℕ) → Correct r p → Made ts s k → Matches q sl (made ts s k) → Holds (holdAt hs p) 1 s (made ts s k .id) sl
-          → Holds (holdAt ns p) 1 s (made ts s k .id) sl ⊎ (Done (made ts s k) (doneAt ds p) ⊎ (has (made ts s k .called) p ≡ true)))
+      → Holds (holdAt ns p) 1 s (made ts s k .id) sl ⊎ (Done (made ts s k) (doneAt ds p) ⊎ (has (made ts s k .called) p ≡ true)))
       (third : Third r q ts ns)
       (cause : (p s k sl : ℕ) → Correct r p → Made ts s k → Matches q sl (made ts s k) → Holds (holdAt ns p) 3 s (made ts s k .id) sl
-          → Holds (holdAt hs p) 3 s (made ts s k .id) sl ⊎ Spread r os ns ds s (made ts s k) sl) where
+      → Holds (holdAt hs p) 3 s (made ts s k .id) sl ⊎ Spread r os ns ds s (made ts s k) sl) where
     entry-calls : (s k p : ℕ) → Made ts s k → Correct r p → has (made ts s k .called) p ≡ true → Called q (made ts s k) s (holdAt ns p) (doneAt ds p) p
     entry-calls s k p m ok c =
         let a = v .calls s k p m ok c in
@@ -139,9 +139,9 @@ module _ {r : Roster} {q : Requests} {ts : List Executions} {os : List Outgoing}
         }
 
     module _ (calls : (s k p : ℕ) → Made ns s k → Correct r p → has (made ns s k .called) p ≡ true
-            → (Made ts s k × (has (made ts s k .called) p ≡ true)) ⊎ Called q (made ns s k) s (holdAt hs p) (doneAt ds p) p)
+        → (Made ts s k × (has (made ts s k .called) p ≡ true)) ⊎ Called q (made ns s k) s (holdAt hs p) (doneAt ds p) p)
         (causes : (s k sl : ℕ) → Made ns s k → Matches q sl (made ns s k) → Cause r hs ds s (made ns s k) sl
-            → (Made ts s k × Cause r hs ds s (made ts s k) sl) ⊎ Spread r os hs ds s (made ns s k) sl) where
+        → (Made ts s k × Cause r hs ds s (made ts s k) sl) ⊎ Spread r os hs ds s (made ns s k) sl) where
       called-on : (s k p : ℕ) → Made ts s k → Called q (made ts s k) s (holdAt hs p) (doneAt ds p) p → Called q (made ns s k) s (holdAt hs p) (doneAt ds p) p
       called-on s k p m a =
           let g = grown s k m in

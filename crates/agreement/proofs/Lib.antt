@@ -1,5 +1,10 @@
 pub mod Invariant
 pub mod Moves
+pub mod Digests
 pub mod Keeping
 pub mod Entries
 pub mod Packets
+pub mod Orders
+pub mod Lists
+pub mod Small
+pub mod Pigeon

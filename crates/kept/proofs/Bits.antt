@@ -12,11 +12,11 @@ use Rattle.world.specs.Sizes.{servers}
 use Rattle.world.specs.Masks.{has, join}
 use Rattle.kept.proofs.Every.{either, same?}
 
-has-zero : (m : ℕ) → has m 0 ≡ eqb (m % 2) 1
+pub has-zero : (m : ℕ) → has m 0 ≡ eqb (m % 2) 1
 unfolding has
 has-zero m = rw div-one
 
-has-suc : (m i : ℕ) → has m (suc i) ≡ has (m / 2) i
+pub has-suc : (m i : ℕ) → has m (suc i) ≡ has (m / 2) i
 unfolding has
 has-suc m i = rw (pow-succ' 2 i, ← div-div-eq-div-mul m 2 (2 ^ i))
 

@@ -30,14 +30,14 @@ members-in r mask f =
     (any-no (λ (i : ℕ). has mask i && not (member r i)) servers
     (λ i h. test (has mask i) (λ y. rw (y, f i h y)) (λ n. rw n)))
 
-record Masked (r : Roster) (x : ℕ) (calls mask : ℕ) : Type 0 where
-  callers : (i : ℕ) → i < servers → has calls i ≡ true → member r i ≡ true
-  proposers : (i : ℕ) → i < servers → has mask i ≡ true → member r i ≡ true
-  within : (i : ℕ) → i < servers → has mask i ≡ true → has calls i ≡ true
-  caller : has calls x ≡ true
-  proposer : has mask x ≡ true
+pub record Masked (r : Roster) (x : ℕ) (calls mask : ℕ) : Type 0 where
+  pub callers : (i : ℕ) → i < servers → has calls i ≡ true → member r i ≡ true
+  pub proposers : (i : ℕ) → i < servers → has mask i ≡ true → member r i ≡ true
+  pub within : (i : ℕ) → i < servers → has mask i ≡ true → has calls i ≡ true
+  pub caller : has calls x ≡ true
+  pub proposer : has mask x ≡ true
 
-masks-out : (r : Roster) (x : ℕ) (e : Execution) → masksSound r x e ≡ true → Masked r x (e .called) (e .mask)
+pub masks-out : (r : Roster) (x : ℕ) (e : Execution) → masksSound r x e ≡ true → Masked r x (e .called) (e .mask)
 unfolding masksSound liesWithin
 masks-out r x e p =
     let a = and5 (not (strays r (e .called))) (not (strays r (e .mask))) (liesWithin (e .mask) (e .called)) (has (e .called) x) (has (e .mask) x) p in

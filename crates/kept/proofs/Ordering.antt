@@ -80,7 +80,7 @@ module _ {r : Roster} {m x : ℕ} {t : Executions} (f : Table r m x t) where
       eqb-false (executionAt t j .id) (executionAt t i .id)
       (not-out _ (every-at (λ (j : ℕ). not (eqb (executionAt t j .id) (executionAt t i .id))) i (f .new i b) j a))
 
-  ids-differ : (j i : ℕ) → j < t .count → i < t .count → j ≢ i → executionAt t j .id ≢ executionAt t i .id
+  pub ids-differ : (j i : ℕ) → j < t .count → i < t .count → j ≢ i → executionAt t j .id ≢ executionAt t i .id
   ids-differ j i a b d =
       either (less? j i) (λ (l : j < i). older j i l b) (λ (l : i ≤ j). λ z. older i j (omega arith) a (sym z))
 

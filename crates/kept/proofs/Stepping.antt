@@ -45,7 +45,7 @@ use Rattle.kept.proofs.Calling.{forge-send-keeps, forge-receive-keeps}
 use Rattle.kept.proofs.Proposing.{propose-keeps, settle-keeps}
 use Rattle.kept.proofs.Multicasting.{multicast-keeps}
 
-few-servers : (r : Roster) → goodRoster r ≡ true → r .n ≤ servers
+pub few-servers : (r : Roster) → goodRoster r ≡ true → r .n ≤ servers
 few-servers r e = leb-true (r .n) servers (and4 (leb 1 (r .n)) (leb (r .n) servers) _ (leb (ones (r .faulty)) (faults r)) e .1)
 
 module _ (w : World) (f : FactsOf w) where
@@ -115,7 +115,7 @@ run-facts w [] f = f
 run-facts w (a ∷ l) f = run-facts (stepOf w a .world) l (step-facts w a f)
 
 -- a schedule that is not refused has a good start
-abbrev Accepts : List ℕ → Verdict → Type 0
+abbrev pub Accepts : List ℕ → Verdict → Type 0
 Accepts s v = (k : ℕ) → v ≡ Accepted k → goodRoster (record { n = byteAt s 1; faulty = byteAt s 2 }) ≡ true
 
 never : {A : Type 0} {why : Refusal} {at k : ℕ} → Refused why at ≡ Accepted k → A
@@ -135,7 +135,7 @@ module _ (s : List ℕ) where
   accepts-form (Step kind body) = refused s _ _
   accepts-form Bad = refused s _ _
 
-  accepts : Accepts s (judged s)
+  pub accepts : Accepts s (judged s)
   unfolding judged
   accepts = musts (Accepts s) (leb (length s) scheduleMost) _ _ (refused s _ _) (λ _. accepts-form (formOf (byteAt s 0)))
 
@@ -143,37 +143,45 @@ pub run-sound : RunSound
 run-sound s k e =
     world-in (worldAfter (startWorld s) (asked s)) (run-facts (startWorld s) (asked s) (start-facts (byteAt s 1) (byteAt s 2) (accepts s k e)))
 
-module _ (s : List ℕ) (room k : ℕ) where
-  ran-by : (v : Verdict) → v ≡ judged s → ranBy s (withRoom room v) .verdict ≡ Accepted k → sound (ranBy s (withRoom room v) .world) ≡ true
+-- what holds of the world behind every schedule that is not refused holds of what `run` hands back
+module _ (P : World → Type 0) (s : List ℕ) (room k : ℕ) (h : (j : ℕ) → judged s ≡ Accepted j → P (worldAfter (startWorld s) (asked s))) where
+  ran-by : (v : Verdict) → v ≡ judged s → ranBy s (withRoom room v) .verdict ≡ Accepted k → P (ranBy s (withRoom room v) .world)
   ran-by (Accepted j) e =
-      musts (λ (u : Verdict). ranBy s u .verdict ≡ Accepted k → sound (ranBy s u .world) ≡ true) (leb j room) _ _ (λ z. never z) (λ _ _. run-sound s j (sym e))
+      musts (λ (u : Verdict). ranBy s u .verdict ≡ Accepted k → P (ranBy s u .world)) (leb j room) _ _ (λ z. never z) (λ _ _. h j (sym e))
   ran-by (Refused why at) e = λ z. never z
 
+  pub ran-keeps : ranOf s room .verdict ≡ Accepted k → P (ranOf s room .world)
+  unfolding ranOf
+  ran-keeps e = ran-by (judged s) refl e
+
 pub ran-sound : RanSound
-unfolding ranOf
-ran-sound s room k e = ran-by s room k (judged s) refl e
+ran-sound s room k e = ran-keeps (λ (w : World). sound w ≡ true) s room k (run-sound s) e
+
+-- what holds of a world and of the world behind every step holds of the world behind a public step
+module _ (P : World → Type 0) (w : World) (s : List ℕ) (same : P w) (next : (a : Asked) → P (stepOf w a .world)) where
+  stepped-by : (v : Read) → P (steppedBy w s v .world)
+  unfolding steppedBy
+  stepped-by (read.Record kind b at) = next _
+  stepped-by (read.Refused why) = same
+  stepped-by read.End = same
+
+  pub stepped-keeps : P (stepped w s .world)
+  unfolding stepped
+  stepped-keeps = musts (λ (v : Taken). P (v .world)) (sound w) _ _ same (λ _. stepped-by (readAt s 0))
+
+-- and what holds of a fresh world, of a public start that answers 0
+pub started-keeps : (P : World → Type 0) (n faulty : ℕ) → (goodRoster (record { n = n; faulty = faulty }) ≡ true → P (freshWorld n faulty))
+    → startOf n faulty .number ≡ 0 → P (startOf n faulty .world)
+unfolding startOf
+started-keeps P n faulty h =
+    musts (λ (v : Taken). v .number ≡ 0 → P (v .world)) (goodRoster (record { n = n; faulty = faulty })) _ _ (λ e. absurd (omega arith)) (λ g _. h g)
 
 -- a row of public steps
-stepped-by : (w : World) (s : List ℕ) → FactsOf w → (v : Read) → FactsOf (steppedBy w s v .world)
-unfolding steppedBy
-stepped-by w s f (read.Record kind b next) = step-facts w _ f
-stepped-by w s f (read.Refused why) = f
-stepped-by w s f read.End = f
-
-stepped-facts : (w : World) (s : List ℕ) → FactsOf w → FactsOf (stepped w s .world)
-unfolding stepped
-stepped-facts w s f = musts (λ (v : Taken). FactsOf (v .world)) (sound w) _ _ f (λ _. stepped-by w s f (readAt s 0))
-
 row-facts : (w : World) (l : List (List ℕ)) → FactsOf w → FactsOf (steppedAll w l)
 unfolding steppedAll
 row-facts w [] f = f
-row-facts w (s ∷ l) f = row-facts (stepped w s .world) l (stepped-facts w s f)
-
-started : (n faulty : ℕ) → startOf n faulty .number ≡ 0 → FactsOf (startOf n faulty .world)
-unfolding startOf
-started n faulty =
-    musts (λ (v : Taken). v .number ≡ 0 → FactsOf (v .world)) (goodRoster (record { n = n; faulty = faulty })) _ _
-    (λ e. absurd (omega arith)) (λ g _. start-facts n faulty g)
+row-facts w (s ∷ l) f = row-facts (stepped w s .world) l (stepped-keeps FactsOf w s f (λ a. step-facts w a f))
 
 pub row-sound : RowSound
-row-sound n faulty l e = world-in (steppedAll (startOf n faulty .world) l) (row-facts (startOf n faulty .world) l (started n faulty e))
+row-sound n faulty l e =
+    world-in (steppedAll (startOf n faulty .world) l) (row-facts (startOf n faulty .world) l (started-keeps FactsOf n faulty (start-facts n faulty) e))
