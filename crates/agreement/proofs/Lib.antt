@@ -5,6 +5,7 @@ pub mod Keeping
 pub mod Entries
 pub mod Packets
 pub mod Orders
+pub mod Items
 pub mod Lists
 pub mod Small
 pub mod Pigeon

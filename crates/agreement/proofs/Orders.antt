@@ -120,3 +120,79 @@ module _ {r : Roster} {q : Requests} {ts : List Executions} {os : List Outgoing}
         (λ (a : (k < tableAt ts x .count) × Cause r hs ds x (made ts x k) sl). inl (record { seated = seated; used = a .0 }, a .1))
         (λ a. inr a))
         (λ s j d h g w. inl (back s j h d, w)) s j)
+
+-- what stands at a place that the orderer changes: a call recorded
+module _ {r : Roster} {q : Requests} {ts : List Executions} {os : List Outgoing} {hs : List Hold} {ds : List Delivered} (v : Inv r q ts os hs ds)
+    (one : (a b : ℕ) (x : Execution) → Matches q a x → Matches q b x → a ≡ b) (x : ℕ) (seated : x < servers) (all : length ts ≡ servers)
+    (size : length (tableAt ts x .table) ≡ executionsMost) (m : ℕ) (small : m ≤ deliveredMost) (few : (p : ℕ) → Correct r p → doneAt ds p .count ≤ m) where
+  module _ (k : ℕ) (inside : k < executionsMost) (used : k < tableAt ts x .count) (caller : ℕ) (named : caller < servers) where
+    abbrev pub recorded : Execution
+    recorded = ordered r (called (made ts x k) caller) m .execution
+
+    recorded-grown : Grown (made ts x k) recorded
+    recorded-grown =
+        let o = orders r (called (made ts x k) caller) m in
+        record {
+          id = o .id;
+          digest = o .digest;
+          number = λ l. either (o .number) (λ a. a .1) (λ a. absurd (omega (arith, a .0)));
+          called = λ p e. rw (o .called) (join-keeps (made ts x k .called) caller p named e);
+        }
+
+    recorded-cause : (sl : ℕ) → Cause r hs ds x recorded sl → Cause r hs ds x (made ts x k) sl
+    recorded-cause sl (sender ok) = sender ok
+    recorded-cause sl (settled p ok h) = settled p ok (rw (recorded-grown .id) at h)
+    recorded-cause sl (delivered p ok d) =
+        delivered p ok
+        (let o = not-done (called (made ts x k) caller) m _ (doneAt ds p) (orders r _ m) small (few p ok) d in
+        record { numbered = o .numbered; reached = o .reached })
+
+    module _ (answers : Correct r caller → Called q recorded x (holdAt hs caller) (doneAt ds caller) caller) where
+      new-call : (p : ℕ) → Correct r p → has (recorded .called) p ≡ true
+          → ((k < tableAt ts x .count) × (has (made ts x k .called) p ≡ true)) ⊎ Called q recorded x (holdAt hs p) (doneAt ds p) p
+      new-call p ok e =
+          either (join-back (made ts x k .called) caller p named (rw (orders r (called (made ts x k) caller) m .called) at e))
+          (λ (z : p ≡ caller). inr (rw z (answers (rw z at ok))))
+          (λ z. inl (used, z))
+
+      pub call-belongs : (s i sl n : ℕ) → Belongs q ts s i sl n → Belongs q (set ts x (changed (tableAt ts x) k (tableAt ts x .count) recorded)) s i sl n
+      call-belongs =
+          made-belongs v one x seated all size k inside (tableAt ts x .count) recorded m used (omega arith) (λ j l _. l) (λ _. recorded-grown) new-call
+          (λ sl _ w. inl (used, recorded-cause sl w))
+
+      pub call-keeps : Inv r q (set ts x (changed (tableAt ts x) k (tableAt ts x .count) recorded)) os hs ds
+      call-keeps =
+          made-keeps v one x seated all size k inside (tableAt ts x .count) recorded m used (omega arith) (λ j l _. l) (λ _. recorded-grown) new-call
+          (λ sl _ w. inl (used, recorded-cause sl w))
+
+  -- an execution made: only its sender has called
+  module _ (room : tableAt ts x .count < executionsMost) (id : ℕ) (digest : List ℕ) where
+    abbrev pub fresh : Execution
+    fresh = ordered r (opened x id digest) m .execution
+
+    pub not-delivered : (p : ℕ) → Correct r p → Done fresh (doneAt ds p) → ⊥
+    not-delivered p ok d =
+        let o = not-done (opened x id digest) m _ (doneAt ds p) (orders r _ m) small (few p ok) d in
+        let z = o .numbered in
+        omega arith
+
+    module _ (answers : Correct r x → Called q fresh x (holdAt hs x) (doneAt ds x) x)
+        (spreads : (sl : ℕ) → Matches q sl fresh → Cause r hs ds x fresh sl → Spread r os hs ds x fresh sl) where
+      first-call : (p : ℕ) → Correct r p → has (fresh .called) p ≡ true
+          → ((tableAt ts x .count < tableAt ts x .count) × (has (made ts x (tableAt ts x .count) .called) p ≡ true))
+          ⊎ Called q fresh x (holdAt hs p) (doneAt ds p) p
+      first-call p ok e =
+          either (join-back nobody x p seated (rw (orders r (opened x id digest) m .called) at e))
+          (λ (z : p ≡ x). inr (rw z (answers (rw z at ok))))
+          (λ z. apart (has nobody p) z (nobody-has p))
+
+      pub send-belongs : (s i sl n : ℕ) → Belongs q ts s i sl n
+          → Belongs q (set ts x (changed (tableAt ts x) (tableAt ts x .count) (tableAt ts x .count + 1) fresh)) s i sl n
+      send-belongs =
+          made-belongs v one x seated all size (tableAt ts x .count) room (tableAt ts x .count + 1) fresh m (omega arith) (omega arith) (λ j l d. omega arith)
+          (λ l. absurd (omega arith)) first-call (λ sl g w. inr (spreads sl g w))
+
+      pub send-keeps : Inv r q (set ts x (changed (tableAt ts x) (tableAt ts x .count) (tableAt ts x .count + 1) fresh)) os hs ds
+      send-keeps =
+          made-keeps v one x seated all size (tableAt ts x .count) room (tableAt ts x .count + 1) fresh m (omega arith) (omega arith) (λ j l d. omega arith)
+          (λ l. absurd (omega arith)) first-call (λ sl g w. inr (spreads sl g w))
