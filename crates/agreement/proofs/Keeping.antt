@@ -41,6 +41,11 @@ holds-less l g = let u = g .is .up in record { place = g .place; is = record { u
 pub matches-on : {q : Requests} {sl : ℕ} {x y : Execution} → y .digest ≡ x .digest → Matches q sl x → Matches q sl y
 matches-on e m = record { stored = m .stored; same = rw e (m .same) }
 
+-- the execution of a sending that belongs to a number
+pub belongs-at : {q : Requests} {m : ℕ} {ts : List Executions} {s i sl n : ℕ} → Keys m ts → (k : ℕ) → Belongs q ts s i sl n → Made ts s k → i ≡ made ts s k .id
+    → (made ts s k .number ≡ n) × Matches q sl (made ts s k)
+belongs-at {s = s} keys k b h e = let z = keys .ids s (b .place) k (b .there) h (b .id ∙ e) in (rw z at (b .number), rw z at (b .matches))
+
 done-on : {x y : Execution} {c d : Delivered} → (0 < x .number → y .number ≡ x .number) → c .count ≤ d .count → Done x c → Done y d
 done-on e l f = let a = f .numbered in let b = f .reached in let n = e a in record { numbered = omega arith; reached = omega arith }
 
@@ -191,11 +196,8 @@ module _ {r : Roster} {q : Requests} {ts : List Executions} {os : List Outgoing}
     caused : (s k sl : ℕ) → Made ts s k → Cause r hs ds s (made ts s k) sl → (a : ℕ) × Matches q a (made ts s k)
     caused s k sl h (sender ok) = let c = v .calls s k s h ok (keys .caller s k h) in (c .slot, c .matches)
     caused s k sl h (settled p ok g) =
-        let b = v .third p (g .place) ok (g .is .up) in
-        let t : Made ts s (b .place) = rw (g .is .sender) at (b .there) in
-        let e : made ts s (b .place) .id ≡ made ts s k .id = rw (g .is .sender) at (b .id ∙ g .is .id) in
-        let z = keys .ids s (b .place) k t h e in
-        (_, rw (g .is .sender, z) at (b .matches))
+        let b = rw (g .is .sender) at (v .third p (g .place) ok (g .is .up)) in
+        (_, belongs-at keys k b h (g .is .id) .1)
     caused s k sl h (delivered p ok d) =
         let a = d .numbered in
         let c = d .reached in

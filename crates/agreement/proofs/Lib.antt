@@ -6,6 +6,8 @@ pub mod Entries
 pub mod Packets
 pub mod Orders
 pub mod Items
+pub mod Moving
+pub mod Delivers
 pub mod Lists
 pub mod Small
 pub mod Pigeon
