@@ -5,6 +5,7 @@ use mathlib.Core.Bool.{true}
 use mathlib.Core.List.{List}
 use Prim.Native.Nat.{ℕ, _+_, _<_, _≤_}
 use native.Mathlib.Omega.{arith}
+use lib.Dec.{eqb}
 use lib.ListN.{length, getD, set}
 use lib.Seq.{getD-set-same}
 use borrow.Author.Tests.{eqb-true}
@@ -23,7 +24,7 @@ use Rattle.world.specs.declared.delivered.Delivered.{Delivered}
 use Rattle.world.specs.Sizes.{holdPlaces}
 use Rattle.world.specs.Masks.{has}
 use Rattle.world.specs.Hold.{entryOf, freeEntry, entryAt, vacancy, put, freed, keptAt, kept}
-use Rattle.kept.proofs.Every.{either, apart, found-at, same?}
+use Rattle.kept.proofs.Every.{either, found-at, found-where, same?}
 use Rattle.kept.proofs.Facts.{noEntries, set-cases}
 use Rattle.agreement.proofs.Invariant.{Correct, holdAt, doneAt, made, Made, Matches, Of, Holds, Done, Belongs, Served, Spread, Inv}
 use Rattle.agreement.proofs.Keeping.{entries-keep}
@@ -166,3 +167,33 @@ module _ {r : Roster} {q : Requests} {ts : List Executions} {os : List Outgoing}
         (λ s k sl m g o. inl (as-third 1 s _ sl (omega arith) o))
         (λ _. belongs)
         (λ s k sl m g o a ok. third-served (made ts s k) s sl a (spread s k sl m g o a ok))
+
+-- an entry kept where there is room
+pub record Room (h : Hold) (e : Entry) : Type 0 where
+  pub place : ℕ
+  pub inside : place < holdPlaces
+  pub free : entryAt h place .stage ≡ 0
+  pub kept-there : kept h e ≡ put h place e
+
+pub room : (h : Hold) (e : Entry) → isFound (vacancy h) ≡ true → Room h e
+unfolding kept keptAt
+room h e y =
+    let z = found-where (vacancy h) y in
+    record {
+      place = z .0;
+      inside = found-in _ holdPlaces (z .0) (vacancy h) refl (z .1);
+      free = eqb-true (entryAt h (z .0) .stage) 0 (found-at (λ (k : ℕ). eqb (entryAt h k .stage) 0) holdPlaces (z .0) (z .1));
+      kept-there = ap (λ (g : Found). keptAt h e g) (z .1);
+    }
+
+pub kept-holds : (h : Hold) (e : Entry) → length (h .places) ≡ holdPlaces → isFound (vacancy h) ≡ true → (stage s i sl : ℕ) → Of e stage s i sl → Holds (kept h e) stage s i sl
+kept-holds h e size y stage s i sl o =
+    let z = room h e y in
+    rw (z .kept-there) (put-holds h (z .place) e size (z .inside) stage s i sl o)
+
+pub entry-kept : {r : Roster} {q : Requests} {ts : List Executions} {os : List Outgoing} {hs : List Hold} {ds : List Delivered} → Inv r q ts os hs ds
+    → ((a b : ℕ) (x : Execution) → Matches q a x → Matches q b x → a ≡ b) → (p : ℕ) → p < length hs → length (holdAt hs p .places) ≡ holdPlaces
+    → (e : Entry) → e .stage < 3 → isFound (vacancy (holdAt hs p)) ≡ true → Inv r q ts os (set hs p (kept (holdAt hs p) e)) ds
+entry-kept {hs = hs} v one p seated size e low y =
+    let z = room (holdAt hs p) e y in
+    rw (z .kept-there) (entry-added v one p seated (z .place) size (z .inside) e low (z .free))

@@ -8,6 +8,7 @@ pub mod Orders
 pub mod Items
 pub mod Moving
 pub mod Delivers
+pub mod Arrives
 pub mod Lists
 pub mod Small
 pub mod Pigeon
