@@ -4,3 +4,5 @@ pub mod Digests
 pub mod Lists
 pub mod Small
 pub mod Pigeon
+pub mod Numbering
+pub mod Sendings
