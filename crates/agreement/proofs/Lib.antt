@@ -12,3 +12,5 @@ pub mod Arrives
 pub mod Lists
 pub mod Small
 pub mod Pigeon
+pub mod Numbering
+pub mod Sendings

@@ -10,7 +10,7 @@ use Rattle.search.specs.Search.{count}
 use Rattle.search.proofs.Laws.{count-same}
 use Rattle.kept.proofs.Every.{either, same?}
 
-count-none : (t : ℕ → Bool) (n : ℕ) → ((i : ℕ) → i < n → t i ≡ false) → count t n ≡ 0
+pub count-none : (t : ℕ → Bool) (n : ℕ) → ((i : ℕ) → i < n → t i ≡ false) → count t n ≡ 0
 unfolding count
 count-none t zero h = refl
 count-none t (suc n) h = rw (h n (omega arith), count-none t n (λ i p. h i (omega arith)))
