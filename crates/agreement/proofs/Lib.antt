@@ -10,6 +10,8 @@ pub mod Moving
 pub mod Delivers
 pub mod Arrives
 pub mod Forges
+pub mod Uses
+pub mod Proposes
 pub mod Lists
 pub mod Small
 pub mod Pigeon

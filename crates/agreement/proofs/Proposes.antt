@@ -1,0 +1,109 @@
+-- A propose step keeps the invariant. Assumes nothing.
+use mathlib.Core.Path.{_≡_, refl, sym, ap, _∙_}
+use mathlib.Core.Logic.{_⊎_, inl, inr, _≢_}
+use mathlib.Core.Bool.{true, false, not}
+use Prim.Native.Nat.{ℕ, _<_, _≤_}
+use native.Mathlib.Omega.{arith}
+use lib.Dec.{eqb}
+use lib.ListN.{length, set}
+use lib.Seq.{set-getD, getD-set-same}
+use borrow.Author.Tests.{eqb-true}
+use Rattle.search.specs.declared.Found.{Found}
+use Rattle.search.specs.declared.Found.the-variants.{At, Nothing}
+use Rattle.world.specs.declared.World.{World}
+use Rattle.world.specs.declared.hold.Entry.{Entry}
+use Rattle.world.specs.Sizes.{servers, executionsMost}
+use Rattle.world.specs.Masks.{has}
+use Rattle.world.specs.Roster.{member, faulty}
+use Rattle.world.specs.Requests.{requestAt, sameDigest}
+use Rattle.world.specs.Executions.{executionOf, called}
+use Rattle.world.specs.Hold.{entryOf, entryAt, put}
+use Rattle.world.specs.Boxes.{seat, holdOf}
+use Rattle.soundness.proofs.Seats.{seat-own}
+use Rattle.rules.specs.declared.boxes.Stepped.{Stepped}
+use Rattle.rules.specs.Rules.{raised, recorded, proposeTo, proposeFound, proposeOf}
+use Rattle.rehearsal.specs.Steps.{touch, boxesOf, putBack}
+use Rattle.kept.proofs.Every.{musts, must-cases, and-both, not-no}
+use Rattle.kept.proofs.Facts.{noPackets, noEntries, FactsOf}
+use Rattle.agreement.proofs.Invariant.{Correct, holdAt, doneAt, tableAt, made, Matches, Of, Holds, Called, Inv, InvOf}
+use Rattle.agreement.proofs.Entries.{entry-second, put-holds}
+use Rattle.agreement.proofs.Orders.{orders, orders-more, calling, call-keeps}
+use Rattle.agreement.proofs.Moves.{Moves}
+use Rattle.agreement.proofs.Moving.{at, one, named, seated, few, calm-entry, stays, ordered}
+use Rattle.agreement.proofs.Uses.{taken, Uses, uses, its, its-made, its-id, dropped, slot-own}
+
+module _ (w : World) (f : FactsOf w) (v : InvOf w) where
+  module _ (p : ℕ) (ok : Correct (w .roster) p) (place : ℕ) (first : entryAt (holdAt (w .holds) p) place .stage ≡ 1) where
+    abbrev e : Entry
+    e = entryAt (holdAt (w .holds) p) place
+
+    abbrev second : Entry
+    second = entryOf 2 (e .sender) (e .id) (e .slot) 0
+
+    u : Uses w f v p ok place
+    u = uses w f v p ok place 1 (λ z. omega arith) first
+
+    full : p < length (w .holds)
+    full = rw (f .all-entries) (seated w f p ok)
+
+    raises : Inv (w .roster) (w .requests) (w .executions) (w .outgoing) (set (w .holds) p (put (holdAt (w .holds) p) place second)) (w .delivered)
+    raises =
+        entry-second v (one w f) p full place (f .entries p (seated w f p ok) .size) (u .within) second (omega arith) first (omega arith) refl refl refl
+
+    module _ (k : ℕ) (q : executionOf (tableAt (w .executions) (e .sender)) (e .id) ≡ At k) where
+      -- the call is answered for: its server holds the entry
+      answers : has (requestAt (w .requests) (e .slot) .seals) p ≡ true → sameDigest (requestAt (w .requests) (e .slot) .digest) (made (w .executions) (e .sender) k .digest) ≡ true
+          → Called (w .requests) (calling (w .roster) (made (w .executions) (e .sender) k) p (w .numbered)) (e .sender)
+          (holdAt (set (w .holds) p (put (holdAt (w .holds) p) place second)) p) (doneAt (w .delivered) p) p
+      answers seal same =
+          let o = orders (w .roster) (called (made (w .executions) (e .sender) k) p) (w .numbered) in
+          record {
+            slot = e .slot;
+            matches = record { stored = u .slot; same = rw (o .digest) same };
+            seal = seal;
+            kept = inl
+                (rw (getD-set-same (w .holds) p (put (holdAt (w .holds) p) place second) noEntries full)
+                (put-holds (holdAt (w .holds) p) place second (f .entries p (seated w f p ok) .size) (u .within) 2 (e .sender) _ (e .slot)
+                (record { up = omega arith; sender = refl; id = sym (o .id ∙ its-id w f v p ok place u k q); slot = refl })));
+          }
+
+    proposed : (g : Found) → g ≡ executionOf (tableAt (w .executions) (e .sender)) (e .id)
+        → (let t = at p p (e .sender) (e .slot) in Moves w (putBack w t (proposeFound (w .roster) p place (boxesOf w t) g .boxes)))
+    unfolding proposeFound proposeTo recorded
+    proposed (At k) q =
+        let t = at p p (e .sender) (e .slot) in
+        let P : Stepped → Type 0 = λ s. Moves w (putBack w t (s .boxes)) in
+        let x = made (w .executions) (e .sender) k in
+        let drops = dropped w f v p ok place u k (sym q) (e .sender) (e .slot) in
+        let g = f .tables (e .sender) (u .sender) in
+        let m = its-made w f v p ok place u k (sym q) in
+        let i : k < executionsMost = omega (arith, g .most, m .used) in
+        must-cases P (not (has (x .called) p)) _ _
+        (λ (n : not (has (x .called) p) ≡ false). drops (inl (first, not-no (has (x .called) p) n))) λ _.
+        musts P (has (requestAt (w .requests) (e .slot) .seals) p) _ _ (calm-entry w f t _ raises) λ seal.
+        must-cases P (sameDigest (requestAt (w .requests) (e .slot) .digest) (x .digest)) _ _ (λ n. drops (inr n)) λ same.
+        ordered w f t (recorded (w .roster) p k (raised place 2 0 (boxesOf w t)))
+        (orders-more _ (w .numbered) _ (orders (w .roster) (called x p) (w .numbered)) (f .numbers .most)) refl
+        (rw (set-getD (w .outgoing) p noPackets)
+        (call-keeps raises (one w f) (e .sender) (u .sender) (f .all-tables) (g .size) (w .numbered) (f .numbers .most) (few w f) k i (m .used) p (seated w f p ok)
+        (λ _. answers k (sym q) seal same)))
+    proposed Nothing q = stays w f (at p p (e .sender) (e .slot)) v
+
+  pub propose-moves : (server place : ℕ)
+      → (let e = entryAt (holdOf w server) place in let t = touch server server (e .sender) (e .slot) in
+      Moves w (putBack w t (proposeOf (w .roster) server place (boxesOf w t) .boxes)))
+  unfolding proposeOf
+  propose-moves server place =
+      let d = entryAt (holdOf w server) place in
+      let t = touch server server (d .sender) (d .slot) in
+      let P : Stepped → Type 0 = λ s. Moves w (putBack w t (s .boxes)) in
+      let same = stays w f t v in
+      musts P (member (w .roster) server) _ _ same λ mine.
+      musts P (not (faulty (w .roster) server)) _ _ same λ good.
+      musts P (eqb (d .stage) 1) _ _ same λ stage.
+      let l = named w f server mine in
+      let ok = and-both mine good in
+      let first = rw (seat-own server l) at (eqb-true (d .stage) 1 stage) in
+      let n = u server ok place first in
+      rw (seat-own server l, seat-own (e server ok place first .sender) (n .sender), slot-own w f (e server ok place first .slot) (n .slot))
+      (proposed server ok place first _ refl)

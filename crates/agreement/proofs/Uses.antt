@@ -1,0 +1,87 @@
+-- An entry that a propose or a settle step takes up: where it stands, and the execution that it names. Assumes nothing.
+use mathlib.Core.Path.{_≡_, refl, sym, ap, _∙_}
+use mathlib.Core.Logic.{_⊎_, inl, inr, _≢_}
+use mathlib.Core.Bool.{true, false}
+use Prim.Native.Nat.{ℕ, _<_, _≤_}
+use native.Mathlib.Omega.{arith}
+use lib.Dec.{eqb, ltb}
+use lib.ListN.{length, set}
+use borrow.Author.Tests.{ltb-true, lt-ltb, eqb-true}
+use Rattle.search.specs.declared.Found.the-variants.{At}
+use Rattle.world.specs.declared.World.{World}
+use Rattle.world.specs.declared.execution.Execution.{Execution}
+use Rattle.world.specs.declared.hold.Entry.{Entry}
+use Rattle.world.specs.Sizes.{servers, requestsMost, executionsMost, holdPlaces}
+use Rattle.world.specs.Masks.{has}
+use Rattle.world.specs.Requests.{requestAt, sameDigest}
+use Rattle.world.specs.Executions.{executionAt, executionOf}
+use Rattle.world.specs.Hold.{freeEntry, entryAt, freed}
+use Rattle.world.specs.Boxes.{within}
+use Rattle.rehearsal.specs.Steps.{boxesOf, putBack}
+use Rattle.rules.specs.Rules.{withHold}
+use Rattle.kept.proofs.Every.{apart, either, and2, found-at}
+use Rattle.kept.proofs.Facts.{FactsOf, inside, entry-out}
+use Rattle.kept.proofs.Ordering.{found-made}
+use Rattle.agreement.proofs.Invariant.{Correct, holdAt, doneAt, tableAt, made, Made, Matches, Of, Done, InvOf}
+use Rattle.agreement.proofs.Keeping.{matches-on}
+use Rattle.agreement.proofs.Entries.{entry-freed}
+use Rattle.agreement.proofs.Moves.{Moves}
+use Rattle.agreement.proofs.Moving.{at, one, named, seated, keys, calm-entry}
+
+module _ (w : World) (f : FactsOf w) (v : InvOf w) (p : ℕ) (ok : Correct (w .roster) p) (place : ℕ) where
+  abbrev pub taken : Entry
+  taken = entryAt (holdAt (w .holds) p) place
+
+  -- the entry is in use
+  pub record Uses : Type 0 where
+    pub within : place < holdPlaces
+    pub sender : taken .sender < servers
+    pub slot : taken .slot < w .requests .count
+
+  pub uses : (stage : ℕ) → stage ≢ 0 → taken .stage ≡ stage → Uses
+  uses stage d q =
+      let s = seated w f p ok in
+      let h = f .entries p s in
+      let l = inside (λ (e : Entry). e .stage ≡ stage) (holdAt (w .holds) p .places) place holdPlaces freeEntry (h .size) q (λ z. d (sym z)) in
+      let e = entry-out (w .roster) _ (w .numbered) p _ taken (λ z. d (sym q ∙ z)) (h .places place l) in
+      record { within = l; sender = named w f (taken .sender) (e .sender); slot = ltb-true (taken .slot) (w .requests .count) (e .slot) }
+
+  module _ (u : Uses) (k : ℕ) (q : executionOf (tableAt (w .executions) (taken .sender)) (taken .id) ≡ At k) where
+    -- the execution that it names
+    abbrev pub its : Execution
+    its = made (w .executions) (taken .sender) k
+
+    pub its-made : Made (w .executions) (taken .sender) k
+    its-made = record { seated = u .sender; used = found-made (tableAt (w .executions) (taken .sender)) (taken .id) k q }
+
+    pub its-id : its .id ≡ taken .id
+    its-id =
+        let t = tableAt (w .executions) (taken .sender) in
+        eqb-true (its .id) (taken .id) (and2 (ltb k (t .count)) (eqb (executionAt t k .id) (taken .id)) (found-at _ executionsMost k q) .1)
+
+    -- and no other
+    pub its-only : {stage s j sl : ℕ} → Made (w .executions) s j → Of taken stage s (made (w .executions) s j .id) sl → made (w .executions) s j ≡ its
+    its-only {s = s} {j = j} m o =
+        let m : Made (w .executions) (taken .sender) j = rw (o .sender) m in
+        let e : made (w .executions) (taken .sender) j .id ≡ its .id = rw (o .sender) (sym (o .id)) ∙ sym its-id in
+        let z = keys w f .ids (taken .sender) j k m its-made e in
+        rw (← o .sender, z)
+
+    -- it goes, where the server has called or the digest is another
+    pub dropped : (x y : ℕ) → ((taken .stage ≡ 1) × (has (its .called) p ≡ true)) ⊎ (sameDigest (requestAt (w .requests) (taken .slot) .digest) (its .digest) ≡ false)
+        → Moves w (putBack w (at p p x y) (withHold (boxesOf w (at p p x y)) (freed (holdAt (w .holds) p) place)))
+    dropped x y why =
+        let s = seated w f p ok in
+        calm-entry w f (at p p x y) _
+        (entry-freed v (one w f) p (rw (f .all-entries) s) place (f .entries p s .size) (u .within)
+        (λ s j sl m g o.
+        let e = its-only m o in
+        either why
+        (λ (c : (taken .stage ≡ 1) × (has (its .called) p ≡ true)). inr (c .0, rw e (c .1)))
+        (λ n.
+        let c : Matches (w .requests) sl its = matches-on (ap (λ (x : Execution). x .digest) (sym e)) g in
+        apart (sameDigest (requestAt (w .requests) (taken .slot) .digest) (its .digest)) (rw (o .slot) (c .same)) n)))
+
+-- a stored slot's own place
+pub slot-own : (w : World) → FactsOf w → (slot : ℕ) → slot < w .requests .count → within requestsMost slot ≡ slot
+slot-own w f slot l = rw (lt-ltb slot requestsMost (omega (arith, f .requests .most)))
