@@ -12,6 +12,7 @@ pub mod Arrives
 pub mod Forges
 pub mod Uses
 pub mod Proposes
+pub mod Settles
 pub mod Lists
 pub mod Small
 pub mod Pigeon
