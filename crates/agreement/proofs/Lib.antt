@@ -13,6 +13,9 @@ pub mod Forges
 pub mod Uses
 pub mod Proposes
 pub mod Settles
+pub mod Multicasts
+pub mod Requests
+pub mod Stepping
 pub mod Lists
 pub mod Small
 pub mod Pigeon

@@ -24,7 +24,7 @@ use Rattle.kept.proofs.Every.{sides-more, musts, and-both, not-in, not-
 use Rattle.kept.proofs.Facts.{set-cases, Stored, FactsOf}
 use Rattle.kept.proofs.More.{packets-more, entries-more, items-more}
 
-same-digest : (d : List ℕ) → sameDigest d d ≡ true
+pub same-digest : (d : List ℕ) → sameDigest d d ≡ true
 unfolding sameDigest
 same-digest d = every-all (λ (k : ℕ). eqb (getD d k 0) (getD d k 0)) digestBytes (λ k _. eq-eqb (getD d k 0) (getD d k 0) refl)
 
