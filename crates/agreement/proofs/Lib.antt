@@ -6,3 +6,5 @@ pub mod Small
 pub mod Pigeon
 pub mod Numbering
 pub mod Sendings
+pub mod Members
+pub mod Quietly
