@@ -8,3 +8,5 @@ pub mod Numbering
 pub mod Sendings
 pub mod Members
 pub mod Quietly
+pub mod Starting
+pub mod Agreeing
