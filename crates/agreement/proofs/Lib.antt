@@ -10,3 +10,5 @@ pub mod Members
 pub mod Quietly
 pub mod Starting
 pub mod Agreeing
+pub mod Rows
+pub mod Theorem
