@@ -1,6 +1,14 @@
 pub mod Invariant
 pub mod Moves
 pub mod Digests
+pub mod Keeping
+pub mod Entries
+pub mod Packets
+pub mod Orders
+pub mod Items
+pub mod Moving
+pub mod Delivers
+pub mod Arrives
 pub mod Lists
 pub mod Small
 pub mod Pigeon

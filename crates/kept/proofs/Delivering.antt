@@ -25,7 +25,7 @@ use Rattle.kept.proofs.Facts.{entry-out}
 use Rattle.kept.proofs.Places.{entry-freed, item-appended}
 use Rattle.kept.proofs.Putting.{Fits, Keeps, with-hold, with-delivered}
 
-third-number : (m : ℕ) (e : Entry) → e .stage ≡ 3 → stageSound m e ≡ true → e .number ≤ m
+pub third-number : (m : ℕ) (e : Entry) → e .stage ≡ 3 → stageSound m e ≡ true → e .number ≤ m
 unfolding stageSound
 third-number m e s p = leb-true (e .number) m (and2 (leb 1 (e .number)) (leb (e .number) m) (rw s at p) .1)
 

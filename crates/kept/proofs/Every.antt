@@ -87,11 +87,14 @@ pub chosen : {A : Type 0} (P : A → Type 0) (c : Bool) (x y : A) → (c ≡ tru
 chosen P true x y f g = f refl
 chosen P false x y f g = g refl
 
--- what holds of a refusal, and of what follows where the test holds, holds of the test's outcome
-pub musts : {A : Type 0} (P : A → Type 0) (c : Bool) (x y : A) → P x → (c ≡ true → P y) → P (must c x y)
+-- what holds of a refusal where the test fails, and of what follows where it holds, holds of the test's outcome
+pub must-cases : {A : Type 0} (P : A → Type 0) (c : Bool) (x y : A) → (c ≡ false → P x) → (c ≡ true → P y) → P (must c x y)
 unfolding must
-musts P true x y p f = f refl
-musts P false x y p f = p
+must-cases P true x y p f = f refl
+must-cases P false x y p f = p refl
+
+pub musts : {A : Type 0} (P : A → Type 0) (c : Bool) (x y : A) → P x → (c ≡ true → P y) → P (must c x y)
+musts P c x y p f = must-cases P c x y (λ _. p) f
 
 -- a search finds a place at which the test holds, and if there is one, it finds one
 from-step : (rest : Found) (t : ℕ → Bool) (at i : ℕ) (b : Bool) → t at ≡ b → (rest ≡ At i → t i ≡ true) → cond b (At at) rest ≡ At i → t i ≡ true

@@ -1,0 +1,118 @@
+-- An arrive step and a forged packet keep the invariant. Assumes nothing.
+use mathlib.Core.Path.{_≡_, refl, sym, ap, _∙_}
+use mathlib.Core.Logic.{_⊎_, inl, inr, _≢_}
+use mathlib.Core.Bool.{true, false, not, _&&_, _||_}
+use Prim.Native.Nat.{ℕ, _<_, _≤_}
+use native.Mathlib.Omega.{arith}
+use lib.Dec.{eqb, ltb}
+use lib.ListN.{length, getD, set}
+use lib.Seq.{set-getD, getD-set-same}
+use borrow.Author.Tests.{eqb-true, eqb-false}
+use Rattle.search.specs.Search.{isFound}
+use Rattle.world.specs.declared.World.{World}
+use Rattle.world.specs.declared.hold.Hold.{Hold}
+use Rattle.world.specs.declared.outgoing.Packet.{Packet}
+use Rattle.world.specs.Sizes.{servers, outgoingPlaces, holdPlaces}
+use Rattle.world.specs.Roster.{member, faulty}
+use Rattle.world.specs.Outgoing.{freePacket, packetAt, packetFor, freePlace, posted, cleared}
+use Rattle.world.specs.Hold.{entryOf, entryAt, isEntry, holding, vacancy, kept}
+use Rattle.world.specs.Boxes.{seat}
+use Rattle.soundness.proofs.Seats.{seat-own}
+use Rattle.rules.specs.declared.boxes.Stepped.{Stepped}
+use Rattle.rules.specs.Rules.{arriveOf, forgePacketOf}
+use Rattle.rehearsal.specs.Steps.{touch, boxesOf, putBack}
+use Rattle.kept.proofs.Every.{apart, either, musts, must-cases, test, and2, and3, and4, found-at, found-where, and-both, not-out, not-no}
+use Rattle.kept.proofs.Facts.{noPackets, noEntries, noItems, FactsOf, inside}
+use Rattle.kept.proofs.Places.{packet-out}
+use Rattle.agreement.proofs.Invariant.{Correct, holdAt, Of, Holds, Goes, Under, Inv, InvOf}
+use Rattle.agreement.proofs.Keeping.{packets-keep}
+use Rattle.agreement.proofs.Entries.{entry-kept, kept-holds}
+use Rattle.agreement.proofs.Packets.{posted-ways, cleared-ways, under-still}
+use Rattle.agreement.proofs.Moves.{Moves}
+use Rattle.agreement.proofs.Moving.{at, one, named, seated, calm, stays}
+
+-- an entry of equal sender, id and slot
+held-equal : (h : Hold) (s i sl : ℕ) → holding h s i sl ≡ true → Holds h 1 s i sl
+held-equal h s i sl y =
+    let z = found-where _ y in
+    let e = entryAt h (z .0) in
+    let a =
+    and4 (not (eqb (e .stage) 0)) (eqb (e .sender) s) (eqb (e .id) i) (eqb (e .slot) sl)
+    (found-at (λ (k : ℕ). isEntry (entryAt h k) s i sl) holdPlaces (z .0) (z .1))
+    in
+    let d = eqb-false (e .stage) 0 (not-out _ (a .0)) in
+    record {
+      place = z .0;
+      is = record { up = omega arith; sender = eqb-true (e .sender) s (a .1); id = eqb-true (e .id) i (a .2); slot = eqb-true (e .slot) sl (a .3) };
+    }
+
+module _ (w : World) (f : FactsOf w) (v : InvOf w) where
+  module _ (o x y place : ℕ) (origin : o < servers) where
+    abbrev packet : Packet
+    packet = packetAt (getD (w .outgoing) o noPackets) place
+
+    -- the packet goes, where its recipient, if it is correct, holds its sending
+    gone : {hs : _} → Inv (w .roster) (w .requests) (w .executions) (w .outgoing) hs (w .delivered)
+        → (Correct (w .roster) (packet .to) → Holds (holdAt hs (packet .to)) 1 (packet .sender) (packet .id) (packet .slot))
+        → Inv (w .roster) (w .requests) (w .executions) (set (w .outgoing) o (cleared (getD (w .outgoing) o noPackets) place)) hs (w .delivered)
+    gone {hs} u held =
+        packets-keep u (one w f) _
+        (λ p s i sl ok.
+        under-still (w .outgoing) o _ (rw (f .all-packets) origin) p s i sl
+        (λ d. either (cleared-ways (getD (w .outgoing) o noPackets) place p s i sl d)
+        (λ n. inl n)
+        (λ (g : Goes packet p s i sl).
+        inr (rw (g .to, g .sender, g .id, g .slot) at (held (rw (g .to) ok))))))
+
+    arrived : member (w .roster) (packet .to) ≡ true → packet .to < servers
+        → (let t = at o (packet .to) x y in let b = boxesOf w t in Moves w (putBack w t (arriveOf (w .roster) o place b .boxes)))
+    unfolding arriveOf
+    arrived mine to =
+        let p = packet .to in
+        let t = at o p x y in
+        let b = boxesOf w t in
+        let P : Stepped → Type 0 = λ s. Moves w (putBack w t (s .boxes)) in
+        let same = stays w f t v in
+        let full : p < length (w .holds) = rw (f .all-entries) to in
+        let e = entryOf 1 (packet .sender) (packet .id) (packet .slot) 0 in
+        let size = f .entries p to .size in
+        musts P (member (w .roster) o) _ _ same λ _.
+        musts P (packet .there) _ _ same λ _.
+        must-cases P (not (faulty (w .roster) p || holding (holdAt (w .holds) p) (packet .sender) (packet .id) (packet .slot))) _ _
+        (λ (no : not (faulty (w .roster) p || holding (holdAt (w .holds) p) (packet .sender) (packet .id) (packet .slot)) ≡ false).
+        calm w f t _ _ _
+        (rw (set-getD (w .holds) p noEntries, set-getD (w .delivered) o noItems)
+        (gone v
+        (λ ok.
+        let good : faulty (w .roster) p ≡ false = not-out (faulty (w .roster) p) (and2 (member (w .roster) p) (not (faulty (w .roster) p)) ok .1) in
+        held-equal (holdAt (w .holds) p) (packet .sender) (packet .id) (packet .slot) (rw good at (not-no (faulty (w .roster) p || holding (holdAt (w .holds) p) (packet .sender) (packet .id) (packet .slot)) no))))))
+        λ _.
+        musts P (isFound (vacancy (holdAt (w .holds) p))) _ _ same λ room.
+        calm w f t _ _ _
+        (rw (set-getD (w .delivered) o noItems)
+        (gone (entry-kept v (one w f) p full size e (omega arith) room)
+        (λ _.
+        rw (getD-set-same (w .holds) p (kept (holdAt (w .holds) p) e) noEntries full)
+        (kept-holds (holdAt (w .holds) p) e size room 1 (packet .sender) (packet .id) (packet .slot) (record { up = omega arith; sender = refl; id = refl; slot = refl })))))
+
+  pub arrive-moves : (origin place : ℕ)
+      → (let t = touch origin (packetAt (getD (w .outgoing) (seat origin) noPackets) place .to) origin 0 in
+      Moves w (putBack w t (arriveOf (w .roster) origin place (boxesOf w t) .boxes)))
+  unfolding arriveOf
+  arrive-moves origin place =
+      test (member (w .roster) origin && packetAt (getD (w .outgoing) (seat origin) noPackets) place .there)
+      (λ yes.
+      let a = and2 (member (w .roster) origin) _ yes in
+      let l = named w f origin (a .0) in
+      let there = rw (seat-own origin l) at (a .1) in
+      let o = getD (w .outgoing) origin noPackets in
+      let z = inside (λ (p : Packet). p .there ≡ true) (o .places) place outgoingPlaces freePacket (f .packets origin l .size) there (λ n. apart false n refl) in
+      let k = packet-out (w .roster) _ origin (packetAt o place) there (f .packets origin l .places place z) in
+      let to = named w f (packetAt o place .to) (k .1) in
+      rw (seat-own origin l, seat-own (packetAt o place .to) to) (arrived origin origin 0 place l (k .1) to))
+      (λ no.
+      let t = touch origin (packetAt (getD (w .outgoing) (seat origin) noPackets) place .to) origin 0 in
+      let P : Stepped → Type 0 = λ s. Moves w (putBack w t (s .boxes)) in
+      musts P (member (w .roster) origin) _ _ (stays w f t v) λ mine.
+      musts P (packetAt (getD (w .outgoing) (seat origin) noPackets) place .there) _ _ (stays w f t v) λ there.
+      apart _ (and-both mine there) no)
