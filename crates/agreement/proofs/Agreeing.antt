@@ -17,7 +17,8 @@ use Rattle.soundness.proofs.Seats.{seat-own}
 use Rattle.agreement.specs.Agreement.{sendings, sendingAt, sendingOf, Numbered, deliveredBy, Begins, Agreed}
 use Rattle.agreement.proofs.Invariant.{Correct, doneAt, tableAt, Belongs}
 use Rattle.agreement.proofs.Sendings.{id-finds, sending-of, sendings-length, sendings-at, begins-by}
-use Rattle.agreement.proofs.Members.{Good, correct-seated, member-of, member-belongs}
+use Rattle.agreement.proofs.Moving.{seated, few}
+use Rattle.agreement.proofs.Members.{Good, member-of, member-belongs}
 use Rattle.agreement.proofs.Quietly.{all-delivered}
 
 -- a sending has one number
@@ -58,28 +59,25 @@ module _ (w : World) (g : Good w) where
 
   module _ (p : ℕ) (c : Correct (w .roster) p) where
     -- what the server delivered, in number and one by one
-    done-most : doneAt (w .delivered) p .count ≤ w .numbered
-    done-most = g .facts .items p (correct-seated (w .roster) p (g .facts .roster) c) .most
-
     done-length : length (deliveredBy w p) ≡ doneAt (w .delivered) p .count
     done-length =
         let d = doneAt (w .delivered) p in
-        let l = correct-seated (w .roster) p (g .facts .roster) c in
+        let l = seated w (g .facts) p c in
         let size = g .facts .items p l .size in
-        let most = done-most in
+        let most = few w (g .facts) p c in
         let top = g .facts .numbers .most in
         rw (seat-own p l) (length-take-le (d .count) (d .items) (omega arith))
 
     done-at : (k : ℕ) → k < doneAt (w .delivered) p .count → getD (deliveredBy w p) k unusedItem ≡ sendingOf w (k + 1)
     done-at k h =
         let d = doneAt (w .delivered) p in
-        rw (seat-own p (correct-seated (w .roster) p (g .facts .roster) c))
+        rw (seat-own p (seated w (g .facts) p c))
         (getD-take (d .count) (d .items) k unusedItem h ∙ sym (sending-of w (g .facts) (g .inv .prefix p k c h)))
 
     agree-beginning : Begins (deliveredBy w p) (sendings w)
     agree-beginning =
         let l = done-length in
-        let most = done-most in
+        let most = few w (g .facts) p c in
         let all = sendings-length w (w .numbered) in
         begins-by (deliveredBy w p) (sendings w) (omega arith)
         (λ k h. done-at k (omega arith) ∙ sym (sendings-at w (w .numbered) k (omega arith)))

@@ -1,16 +1,9 @@
 -- Every number belongs to a sending that a correct server called for. Assumes nothing.
 use mathlib.Core.Path.{_≡_, refl}
-use mathlib.Core.Bool.{true, not}
 use Prim.Native.Nat.{ℕ, _<_, _≤_}
 use native.Mathlib.Omega.{arith}
-use borrow.Author.Tests.{ltb-true}
 use Rattle.world.specs.declared.World.{World}
-use Rattle.world.specs.declared.roster.Roster.{Roster}
-use Rattle.world.specs.Sizes.{servers}
-use Rattle.world.specs.Roster.{member, faulty, goodRoster}
-use Rattle.kept.proofs.Every.{and2}
 use Rattle.kept.proofs.Facts.{FactsOf}
-use Rattle.kept.proofs.Stepping.{few-servers}
 use Rattle.agreement.proofs.Invariant.{Correct, holdAt, doneAt, made, Made, Belongs, Called, InvOf}
 use Rattle.agreement.proofs.Small.{Small}
 use Rattle.agreement.proofs.Pigeon.{correct-caller}
@@ -21,13 +14,6 @@ pub record Good (w : World) : Type 0 where
   pub facts : FactsOf w
   pub inv : InvOf w
   pub small : Small (w .executions)
-
--- a correct server is one of the eight
-pub correct-seated : (r : Roster) (p : ℕ) → goodRoster r ≡ true → Correct r p → p < servers
-correct-seated r p g c =
-    let n = few-servers r g in
-    let l = ltb-true p (r .n) (and2 (member r p) (not (faulty r p)) c .0) in
-    omega arith
 
 -- the execution that has a number, and a correct server that has called for it
 pub record Member (w : World) (n : ℕ) : Type 0 where

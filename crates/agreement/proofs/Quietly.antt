@@ -15,7 +15,6 @@ use Rattle.world.specs.declared.execution.Executions.{Executions}
 use Rattle.world.specs.declared.outgoing.Outgoing.{Outgoing}
 use Rattle.world.specs.declared.outgoing.Packet.{Packet}
 use Rattle.world.specs.declared.hold.Entry.{Entry}
-use Rattle.world.specs.declared.hold.Hold.{Hold}
 use Rattle.world.specs.Sizes.{servers, outgoingPlaces, holdPlaces}
 use Rattle.world.specs.Roster.{correct}
 use Rattle.world.specs.Executions.{executionAt, executionOf}
@@ -28,7 +27,9 @@ use Rattle.soundness.proofs.Seats.{seat-own}
 use Rattle.kept.proofs.Every.{apart, either, less?, and2, and-both, implies-out, not-in, not-out, every-at}
 use Rattle.kept.proofs.Facts.{noPackets, inside, entry-out}
 use Rattle.agreement.proofs.Invariant.{Correct, holdAt, doneAt, made, Made, Holds, Under, Belongs, Served, Cause, settled, delivered}
-use Rattle.agreement.proofs.Members.{Good, Member, correct-seated, member-of}
+use Rattle.agreement.proofs.Keeping.{holds-less}
+use Rattle.agreement.proofs.Moving.{seated, few}
+use Rattle.agreement.proofs.Members.{Good, Member, member-of}
 use Rattle.agreement.proofs.Sendings.{id-finds, belongs-number}
 
 -- a test of two that fails, where one of them holds
@@ -39,12 +40,6 @@ and-no false b e h = refl
 or-no : (a b : Bool) → (a || b) ≡ false → (a ≡ false) × (b ≡ false)
 or-no true b e = apart true refl e
 or-no false b e = (refl, e)
-
--- an entry at a later stage is at the first or a later one
-held-first : {h : Hold} {s i sl : ℕ} → Holds h 2 s i sl → Holds h 1 s i sl
-held-first h =
-    let up = h .is .up in
-    record { place = h .place; is = record { up = omega arith; sender = h .is .sender; id = h .is .id; slot = h .is .slot } }
 
 -- an entry with which its server, whose next number is given, could not go on
 record Rests (t : Executions) (next : ℕ) (e : Entry) : Type 0 where
@@ -103,7 +98,7 @@ module _ (w : World) (g : Good w) (q : quiet w ≡ true) where
       let h = holdAt (w .holds) p in
       let e = entryAt h z in
       let next = nextOf (doneAt (w .delivered) p) in
-      let s = correct-seated (w .roster) p (g .facts .roster) c in
+      let s = seated w (g .facts) p c in
       let f = g .facts .entries p s in
       let l = inside (λ (e : Entry). 1 ≤ e .stage) (h .places) z holdPlaces freeEntry (f .size) up (λ e. omega arith) in
       let y : stirs (tableOf (w .executions) (e .sender)) next e ≡ false =
@@ -155,7 +150,7 @@ module _ (w : World) (g : Good w) (q : quiet w ≡ true) where
       let e = m .number in
       either (m .called .kept)
       (λ (h : Holds (holdAt (w .holds) (m .server)) 2 (m .sender) (made (w .executions) (m .sender) (m .place) .id) (m .called .slot)).
-      settled (m .server) (m .good) (third-stage (m .server) (m .good) (m .there) (λ z. omega arith) (held-first h)))
+      settled (m .server) (m .good) (third-stage (m .server) (m .good) (m .there) (λ z. omega arith) (holds-less (omega arith) h)))
       (λ h. delivered (m .server) (m .good) h)
 
   -- but no correct server is served with its next number
@@ -172,7 +167,7 @@ module _ (w : World) (g : Good w) (q : quiet w ≡ true) where
   pub all-delivered : (p : ℕ) → Correct (w .roster) p → doneAt (w .delivered) p .count ≡ w .numbered
   all-delivered p c =
       let d = doneAt (w .delivered) p in
-      let most = g .facts .items p (correct-seated (w .roster) p (g .facts .roster) c) .most in
+      let most = few w (g .facts) p c in
       let top = g .facts .numbers .most in
       either (less? (d .count) (w .numbered))
       (λ (l : d .count < w .numbered).

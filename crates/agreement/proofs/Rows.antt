@@ -20,7 +20,8 @@ use Rattle.agreement.specs.Agreement.{sendings, sendingOf, Begins, throu
 use Rattle.agreement.proofs.Invariant.{Correct, holdAt, doneAt, made, Of, Holds, Done, Belongs}
 use Rattle.agreement.proofs.Moves.{Moves}
 use Rattle.agreement.proofs.Sendings.{sending-of, sendings-length, sendings-at, begins-by}
-use Rattle.agreement.proofs.Members.{Good, correct-seated, Member, member-of, member-belongs}
+use Rattle.agreement.proofs.Moving.{seated, few}
+use Rattle.agreement.proofs.Members.{Good, Member, member-of, member-belongs}
 use Rattle.agreement.proofs.Agreeing.{agreed}
 
 -- what one step leads to
@@ -50,7 +51,7 @@ module _ (w : World) (g : Good w) where
       let up = h .is .up in
       let l =
       inside (λ (e : Entry). 2 ≤ e .stage) (k .places) (h .place) holdPlaces freeEntry
-      (g .facts .entries p (correct-seated (w .roster) p (g .facts .roster) c) .size) up (λ e. omega arith)
+      (g .facts .entries p (seated w (g .facts) p c) .size) up (λ e. omega arith)
       in
       any-in (λ (z : ℕ). isEntry (entryAt k z) s i sl) holdPlaces (h .place) l (entry-is (omega arith) (h .is))
 
@@ -63,7 +64,7 @@ module _ (w : World) (g : Good w) where
         server = m .server;
         good = m .good;
         seal = m .called .seal;
-        held = rw (seat-own (m .server) (correct-seated (w .roster) (m .server) (g .facts .roster) (m .good))) (held-in (m .server) (m .good) h);
+        held = rw (seat-own (m .server) (seated w (g .facts) (m .server) (m .good))) (held-in (m .server) (m .good) h);
       }
 
 -- a number that a step gives
@@ -75,7 +76,7 @@ module _ (w v : World) (g : Good w) (l : Leads w v) (n : ℕ) (before : w .numbe
       let e = m .number in
       let r = d .reached in
       let c = subst (λ (r : Roster). Correct r p) (l .moves .roster) (m .good) in
-      let most = g .facts .items p (correct-seated (w .roster) p (g .facts .roster) c) .most in
+      let most = few w (g .facts) p c in
       either (l .moves .still)
       (λ (z : v .numbered ≡ w .numbered). omega arith)
       (λ (z : v .delivered ≡ w .delivered). let y = ap (λ (ds : List Delivered). doneAt ds p .count) z in omega arith)
