@@ -18,6 +18,7 @@ use Rattle.world.specs.Outgoing.{freePacket, packetAt, packetFor, freePlace, po
 use Rattle.world.specs.Hold.{entryOf, entryAt, isEntry, holding, vacancy, kept}
 use Rattle.world.specs.Boxes.{seat}
 use Rattle.soundness.proofs.Seats.{seat-own}
+use Rattle.soundness.proofs.Seats as seats
 use Rattle.rules.specs.declared.boxes.Stepped.{Stepped}
 use Rattle.rules.specs.Rules.{arriveOf, forgePacketOf}
 use Rattle.rehearsal.specs.Steps.{touch, boxesOf, putBack}
@@ -29,7 +30,7 @@ use Rattle.agreement.proofs.Keeping.{packets-keep}
 use Rattle.agreement.proofs.Entries.{entry-kept, kept-holds}
 use Rattle.agreement.proofs.Packets.{posted-ways, cleared-ways, under-still}
 use Rattle.agreement.proofs.Moves.{Moves}
-use Rattle.agreement.proofs.Moving.{at, one, named, seated, calm, stays}
+use Rattle.agreement.proofs.Moving.{at, one, named, good, calm, stays}
 
 -- an entry of equal sender, id and slot
 held-equal : (h : Hold) (s i sl : ℕ) → holding h s i sl ≡ true → Holds h 1 s i sl
@@ -84,8 +85,7 @@ module _ (w : World) (f : FactsOf w) (v : InvOf w) where
         (rw (set-getD (w .holds) p noEntries, set-getD (w .delivered) o noItems)
         (gone v
         (λ ok.
-        let good : faulty (w .roster) p ≡ false = not-out (faulty (w .roster) p) (and2 (member (w .roster) p) (not (faulty (w .roster) p)) ok .1) in
-        held-equal (holdAt (w .holds) p) (packet .sender) (packet .id) (packet .slot) (rw good at (not-no (faulty (w .roster) p || holding (holdAt (w .holds) p) (packet .sender) (packet .id) (packet .slot)) no))))))
+        held-equal (holdAt (w .holds) p) (packet .sender) (packet .id) (packet .slot) (rw (good w f p ok) at (not-no (faulty (w .roster) p || holding (holdAt (w .holds) p) (packet .sender) (packet .id) (packet .slot)) no))))))
         λ _.
         musts P (isFound (vacancy (holdAt (w .holds) p))) _ _ same λ room.
         calm w f t _ _ _
@@ -116,3 +116,22 @@ module _ (w : World) (f : FactsOf w) (v : InvOf w) where
       musts P (member (w .roster) origin) _ _ (stays w f t v) λ mine.
       musts P (packetAt (getD (w .outgoing) (seat origin) noPackets) place .there) _ _ (stays w f t v) λ there.
       apart _ (and-both mine there) no)
+
+  pub forge-packet-moves : (from to sender id slot : ℕ)
+      → (let t = touch from from from 0 in Moves w (putBack w t (forgePacketOf (w .roster) from to sender id slot (boxesOf w t) .boxes)))
+  unfolding forgePacketOf
+  forge-packet-moves from to sender id slot =
+      let t = touch from from from 0 in
+      let P : Stepped → Type 0 = λ s. Moves w (putBack w t (s .boxes)) in
+      let same = stays w f t v in
+      let o = getD (w .outgoing) (seat from) noPackets in
+      let l = seats.seated from (seat from) refl in
+      musts P (member (w .roster) from && member (w .roster) to && member (w .roster) sender) _ _ same λ _.
+      musts P (faulty (w .roster) from) _ _ same λ _.
+      musts P (ltb slot (w .requests .count)) _ _ same λ _.
+      musts P (isFound (freePlace o)) _ _ same λ _.
+      calm w f t _ _ _
+      (rw (set-getD (w .holds) (seat from) noEntries, set-getD (w .delivered) (seat from) noItems)
+      (packets-keep v (one w f) _
+      (λ p s i sl ok.
+      under-still (w .outgoing) (seat from) _ (rw (f .all-packets) l) p s i sl (λ d. inl (posted-ways o _ (f .packets (seat from) l .size) p s i sl d)))))

@@ -25,13 +25,13 @@ use Rattle.kept.proofs.Every.{musts, and2, and-both, found-at}
 use Rattle.kept.proofs.Facts.{noPackets, noItems, FactsOf, entry-out}
 use Rattle.kept.proofs.Delivering.{third-number}
 use Rattle.agreement.proofs.Invariant.{Correct, holdAt, doneAt, made, Made, Matches, Of, Done, InvOf}
-use Rattle.agreement.proofs.Keeping.{Keys, belongs-at}
+use Rattle.agreement.proofs.Keeping.{belongs-at}
 use Rattle.agreement.proofs.Entries.{entry-freed}
 use Rattle.agreement.proofs.Items.{item-keeps, itemOf}
 use Rattle.agreement.proofs.Moves.{Moves}
-use Rattle.agreement.proofs.Moving.{at, one, named, seated, few, calm, stays}
+use Rattle.agreement.proofs.Moving.{at, one, named, seated, few, keys, calm, stays}
 
-module _ (w : World) (f : FactsOf w) (v : InvOf w) (keys : Keys (w .numbered) (w .executions)) where
+module _ (w : World) (f : FactsOf w) (v : InvOf w) where
   delivered-at : (p x y : ℕ) → Correct (w .roster) p → (g : Found) → g ≡ readyPlace (holdAt (w .holds) p) (nextOf (doneAt (w .delivered) p))
       → Moves w (putBack w (at p p x y) (deliverFound (boxesOf w (at p p x y)) g .boxes))
   unfolding deliverFound
@@ -49,13 +49,13 @@ module _ (w : World) (f : FactsOf w) (v : InvOf w) (keys : Keys (w .numbered) (w
       let less = few w f p ok in
       let next : e .number ≡ d .count + 1 = omega arith in
       let all : p < length (w .delivered) = rw (f .all-items) s in
-      let now = item-keeps v (one w f) (w .numbered) keys p ok all (f .items p s .size) (omega arith) z third next in
+      let now = item-keeps v (one w f) (w .numbered) (keys w f) p ok all (f .items p s .size) (omega arith) z third next in
       calm w f (at p p x y) _ _ _
       (rw (set-getD (w .outgoing) p noPackets)
       (entry-freed now (one w f) p (rw (f .all-entries) s) z (f .entries p s .size) l
       (λ u k sl m g o.
       let b = rw (o .sender) at (v .third p z ok (omega arith)) in
-      let c = belongs-at keys k b m (o .id) .0 in
+      let c = belongs-at (keys w f) k b m (o .id) .0 in
       inl (record {
         numbered = rw c (b .some);
         reached = rw (getD-set-same (w .delivered) p (appended d (itemOf e)) noItems all) (omega arith);

@@ -13,6 +13,7 @@ use Rattle.world.specs.declared.execution.Executions.{Executions}
 use Rattle.world.specs.declared.outgoing.Outgoing.{Outgoing}
 use Rattle.world.specs.declared.hold.Hold.{Hold}
 use Rattle.world.specs.declared.delivered.Delivered.{Delivered}
+use Rattle.world.specs.Sizes.{servers}
 use Rattle.world.specs.Masks.{has}
 use Rattle.world.specs.Requests.{requestAt}
 use Rattle.kept.proofs.Every.{either}
@@ -31,7 +32,7 @@ pub record Keys (m : ℕ) (ts : List Executions) : Type 0 where
   pub numbers : (s t j k : ℕ) → Made ts s j → Made ts t k → made ts s j .number ≡ made ts t k .number → 0 < made ts s j .number → (s ≡ t) × (j ≡ k)
   pub low : (s k : ℕ) → Made ts s k → made ts s k .number ≤ m
   pub caller : (s k : ℕ) → Made ts s k → has (made ts s k .called) s ≡ true
-  pub within : (s k p : ℕ) → Made ts s k → has (made ts s k .mask) p ≡ true → has (made ts s k .called) p ≡ true
+  pub within : (s k p : ℕ) → p < servers → Made ts s k → has (made ts s k .mask) p ≡ true → has (made ts s k .called) p ≡ true
 
 -- an entry or a packet at a lower stage
 pub holds-less : {h : Hold} {a b s i sl : ℕ} → b ≤ a → Holds h a s i sl → Holds h b s i sl

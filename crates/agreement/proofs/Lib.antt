@@ -9,6 +9,7 @@ pub mod Items
 pub mod Moving
 pub mod Delivers
 pub mod Arrives
+pub mod Forges
 pub mod Lists
 pub mod Small
 pub mod Pigeon

@@ -1,7 +1,7 @@
 -- The world that a step leaves: what does not change, and what must be shown of what does. Assumes nothing.
 use mathlib.Core.Path.{_≡_, refl, sym, ap, _∙_}
 use mathlib.Core.Logic.{_⊎_, inl, inr, _≢_}
-use mathlib.Core.Bool.{true, not}
+use mathlib.Core.Bool.{true, false, not}
 use mathlib.Core.List.{List}
 use Prim.Native.Nat.{ℕ, _+_, _<_, _≤_}
 use native.Mathlib.Omega.{arith}
@@ -20,11 +20,17 @@ use Rattle.rules.specs.declared.boxes.Boxes.{Boxes}
 use Rattle.rules.specs.Rules.{withHold, withOutgoing, withDelivered}
 use Rattle.rehearsal.specs.declared.boxing.Touch.{Touch}
 use Rattle.rehearsal.specs.Steps.{boxesOf, putBack}
-use Rattle.kept.proofs.Every.{and2}
-use Rattle.kept.proofs.Facts.{noTable, noPackets, noEntries, noItems, FactsOf}
+use Rattle.kept.proofs.Every.{either, same?, and2, not-out}
+use Rattle.kept.proofs.Facts.{noTable, noPackets, noEntries, noItems, FactsOf, place-out, order-low}
+use Rattle.kept.proofs.Facts as facts
+use Rattle.kept.proofs.Masking.{masks-out}
+use Rattle.kept.proofs.Ordering.{ids-differ}
 use Rattle.kept.proofs.Stepping.{few-servers}
-use Rattle.agreement.proofs.Invariant.{Correct, doneAt, Matches, Belongs, Inv, InvOf}
+use Rattle.agreement.proofs.Invariant.{Correct, doneAt, tableAt, made, Made, Matches, Inv, InvOf}
 use Rattle.agreement.proofs.Digests.{matches-one}
+use Rattle.agreement.proofs.Sendings.{made-one}
+use Rattle.agreement.proofs.Keeping.{Keys}
+use Rattle.agreement.proofs.Orders.{Grew}
 use Rattle.agreement.proofs.Moves.{Moves}
 
 -- the boxes of servers by their names
@@ -41,9 +47,30 @@ module _ (w : World) (f : FactsOf w) where
   pub seated : (p : ℕ) → Correct (w .roster) p → p < servers
   seated p ok = named p (and2 (member (w .roster) p) (not (faulty (w .roster) p)) ok .0)
 
+  pub good : (p : ℕ) → Correct (w .roster) p → faulty (w .roster) p ≡ false
+  good p ok = not-out (faulty (w .roster) p) (and2 (member (w .roster) p) (not (faulty (w .roster) p)) ok .1)
+
   -- no server has delivered more than the numbers given
   pub few : (p : ℕ) → Correct (w .roster) p → doneAt (w .delivered) p .count ≤ w .numbered
   few p ok = f .items p (seated p ok) .most
+
+  -- an execution in use, and what is known of all
+  used : {s k : ℕ} → Made (w .executions) s k → facts.Made (w .roster) (w .numbered) s k (made (w .executions) s k)
+  used {s} {k} h =
+      let t = f .tables s (h .seated) in
+      let l = h .used in
+      let m = t .most in
+      place-out (w .roster) (w .numbered) s (tableAt (w .executions) s .count) k (made (w .executions) s k) l (t .places k (omega arith))
+
+  pub keys : Keys (w .numbered) (w .executions)
+  keys =
+      record {
+        ids = λ s j k a b e. either (same? j k) (λ (z : j ≡ k). z) (λ (z : j ≢ k). absurd (ids-differ (f .tables s (a .seated)) j k (a .used) (b .used) z e));
+        numbers = λ s t j k a b e l. made-one w f a b e l;
+        low = λ s k h. order-low (w .roster) (w .numbered) (made (w .executions) s k) (used h .order);
+        caller = λ s k h. masks-out (w .roster) s (made (w .executions) s k) (used h .masks) .caller;
+        within = λ s k p l h e. masks-out (w .roster) s (made (w .executions) s k) (used h .masks) .within p l e;
+      }
 
   module _ (t : Touch) where
     -- no number is given
@@ -67,14 +94,14 @@ module _ (w : World) (f : FactsOf w) where
 
     -- nothing is delivered
     pub ordered : (b : Boxes) → w .numbered ≤ b .numbered → b .delivered ≡ getD (w .delivered) (t .server) noItems
-        → Inv (w .roster) (w .requests) (set (w .executions) (t .sender) (b .executions)) (set (w .outgoing) (t .server) (b .outgoing)) (set (w .holds) (t .holder) (b .hold)) (w .delivered)
-        → ((s i sl n : ℕ) → Belongs (w .requests) (w .executions) s i sl n → Belongs (w .requests) (set (w .executions) (t .sender) (b .executions)) s i sl n)
+        → Grew (w .roster) (w .requests) (w .executions) (set (w .executions) (t .sender) (b .executions)) (set (w .outgoing) (t .server) (b .outgoing))
+        (set (w .holds) (t .holder) (b .hold)) (w .delivered)
         → Moves w (putBack w t b)
-    ordered b more none v belongs =
+    ordered b more none g =
         record {
-          inv = rw (none, set-getD (w .delivered) (t .server) noItems) v;
+          inv = rw (none, set-getD (w .delivered) (t .server) noItems) (g .inv);
           roster = refl;
           more = more;
-          belongs = belongs;
+          belongs = g .belongs;
           still = inr (rw (none, set-getD (w .delivered) (t .server) noItems));
         }

@@ -46,6 +46,21 @@ orders r e m =
     record { id = refl; digest = refl; called = refl; mask = refl; number = inr (eqb-true (e .number) 0 (a .0), refl, refl) })
     (λ _. record { id = refl; digest = refl; called = refl; mask = refl; number = inl (refl, refl) })
 
+-- an execution as the orderer makes it, and as it leaves it behind a call
+abbrev pub opening : Roster → ℕ → ℕ → List ℕ → ℕ → Execution
+opening r s id digest m = ordered r (opened s id digest) m .execution
+
+abbrev pub calling : Roster → Execution → ℕ → ℕ → Execution
+calling r e caller m = ordered r (called e caller) m .execution
+
+pub orders-more : (e : Execution) (m : ℕ) (o : Ordered) → Orders e m o → m ≤ deliveredMost → m ≤ o .numbered
+orders-more e m o f small = either (f .number) (λ a. omega (arith, a .0)) (λ a. omega (arith, a .1))
+
+-- the invariant, with other executions; and no sending loses its number
+pub record Grew (r : Roster) (q : Requests) (ts ns : List Executions) (os : List Outgoing) (hs : List Hold) (ds : List Delivered) : Type 0 where
+  pub inv : Inv r q ns os hs ds
+  pub belongs : (s i sl n : ℕ) → Belongs q ts s i sl n → Belongs q ns s i sl n
+
 -- a number that is given now is delivered by nobody yet
 not-done : (e : Execution) (m : ℕ) (o : Ordered) (d : Delivered) → Orders e m o → m ≤ deliveredMost → d .count ≤ m → Done (o .execution) d → Done e d
 not-done e m o d f small few g =
@@ -99,11 +114,8 @@ module _ {r : Roster} {q : Requests} {ts : List Executions} {os : List Outgoing}
     grown : (s j : ℕ) → Made ts s j → Grown (made ts s j) (made now s j)
     grown s j h = made-cases (λ s j z. Made ts s j → Grown (made ts s j) z) (λ h. old (h .used)) (λ s j _ _. same (made ts s j)) s j h
 
-    pub made-belongs : (s i sl n : ℕ) → Belongs q ts s i sl n → Belongs q now s i sl n
-    made-belongs = belongs-on v one now there grown
-
-    pub made-keeps : Inv r q now os hs ds
-    made-keeps =
+    made-inv : Inv r q now os hs ds
+    made-inv =
         tables-keep v one now there grown
         (λ s j p.
         made-cases
@@ -121,15 +133,15 @@ module _ {r : Roster} {q : Requests} {ts : List Executions} {os : List Outgoing}
         (λ a. inr a))
         (λ s j d h g w. inl (back s j h d, w)) s j)
 
--- what stands at a place that the orderer changes: a call recorded
+    pub made-keeps : Grew r q ts now os hs ds
+    made-keeps = record { inv = made-inv; belongs = belongs-on v one now there grown }
+
+-- a call recorded
 module _ {r : Roster} {q : Requests} {ts : List Executions} {os : List Outgoing} {hs : List Hold} {ds : List Delivered} (v : Inv r q ts os hs ds)
     (one : (a b : ℕ) (x : Execution) → Matches q a x → Matches q b x → a ≡ b) (x : ℕ) (seated : x < servers) (all : length ts ≡ servers)
     (size : length (tableAt ts x .table) ≡ executionsMost) (m : ℕ) (small : m ≤ deliveredMost) (few : (p : ℕ) → Correct r p → doneAt ds p .count ≤ m) where
   module _ (k : ℕ) (inside : k < executionsMost) (used : k < tableAt ts x .count) (caller : ℕ) (named : caller < servers) where
-    abbrev pub recorded : Execution
-    recorded = ordered r (called (made ts x k) caller) m .execution
-
-    recorded-grown : Grown (made ts x k) recorded
+    recorded-grown : Grown (made ts x k) (calling r (made ts x k) caller m)
     recorded-grown =
         let o = orders r (called (made ts x k) caller) m in
         record {
@@ -139,7 +151,7 @@ module _ {r : Roster} {q : Requests} {ts : List Executions} {os : List Outgoing}
           called = λ p e. rw (o .called) (join-keeps (made ts x k .called) caller p named e);
         }
 
-    recorded-cause : (sl : ℕ) → Cause r hs ds x recorded sl → Cause r hs ds x (made ts x k) sl
+    recorded-cause : (sl : ℕ) → Cause r hs ds x (calling r (made ts x k) caller m) sl → Cause r hs ds x (made ts x k) sl
     recorded-cause sl (sender ok) = sender ok
     recorded-cause sl (settled p ok h) = settled p ok (rw (recorded-grown .id) at h)
     recorded-cause sl (delivered p ok d) =
@@ -147,52 +159,38 @@ module _ {r : Roster} {q : Requests} {ts : List Executions} {os : List Outgoing}
         (let o = not-done (called (made ts x k) caller) m _ (doneAt ds p) (orders r _ m) small (few p ok) d in
         record { numbered = o .numbered; reached = o .reached })
 
-    module _ (answers : Correct r caller → Called q recorded x (holdAt hs caller) (doneAt ds caller) caller) where
-      new-call : (p : ℕ) → Correct r p → has (recorded .called) p ≡ true
-          → ((k < tableAt ts x .count) × (has (made ts x k .called) p ≡ true)) ⊎ Called q recorded x (holdAt hs p) (doneAt ds p) p
+    module _ (answers : Correct r caller → Called q (calling r (made ts x k) caller m) x (holdAt hs caller) (doneAt ds caller) caller) where
+      new-call : (p : ℕ) → Correct r p → has ((calling r (made ts x k) caller m) .called) p ≡ true
+          → ((k < tableAt ts x .count) × (has (made ts x k .called) p ≡ true)) ⊎ Called q (calling r (made ts x k) caller m) x (holdAt hs p) (doneAt ds p) p
       new-call p ok e =
           either (join-back (made ts x k .called) caller p named (rw (orders r (called (made ts x k) caller) m .called) at e))
           (λ (z : p ≡ caller). inr (rw z (answers (rw z at ok))))
           (λ z. inl (used, z))
 
-      pub call-belongs : (s i sl n : ℕ) → Belongs q ts s i sl n → Belongs q (set ts x (changed (tableAt ts x) k (tableAt ts x .count) recorded)) s i sl n
-      call-belongs =
-          made-belongs v one x seated all size k inside (tableAt ts x .count) recorded m used (omega arith) (λ j l _. l) (λ _. recorded-grown) new-call
-          (λ sl _ w. inl (used, recorded-cause sl w))
-
-      pub call-keeps : Inv r q (set ts x (changed (tableAt ts x) k (tableAt ts x .count) recorded)) os hs ds
+      pub call-keeps : Grew r q ts (set ts x (changed (tableAt ts x) k (tableAt ts x .count) (calling r (made ts x k) caller m))) os hs ds
       call-keeps =
-          made-keeps v one x seated all size k inside (tableAt ts x .count) recorded m used (omega arith) (λ j l _. l) (λ _. recorded-grown) new-call
+          made-keeps v one x seated all size k inside (tableAt ts x .count) (calling r (made ts x k) caller m) m used (omega arith) (λ j l _. l) (λ _. recorded-grown) new-call
           (λ sl _ w. inl (used, recorded-cause sl w))
 
   -- an execution made: only its sender has called
   module _ (room : tableAt ts x .count < executionsMost) (id : ℕ) (digest : List ℕ) where
-    abbrev pub fresh : Execution
-    fresh = ordered r (opened x id digest) m .execution
-
-    pub not-delivered : (p : ℕ) → Correct r p → Done fresh (doneAt ds p) → ⊥
+    pub not-delivered : (p : ℕ) → Correct r p → Done (opening r x id digest m) (doneAt ds p) → ⊥
     not-delivered p ok d =
         let o = not-done (opened x id digest) m _ (doneAt ds p) (orders r _ m) small (few p ok) d in
         let z = o .numbered in
         omega arith
 
-    module _ (answers : Correct r x → Called q fresh x (holdAt hs x) (doneAt ds x) x)
-        (spreads : (sl : ℕ) → Matches q sl fresh → Cause r hs ds x fresh sl → Spread r os hs ds x fresh sl) where
-      first-call : (p : ℕ) → Correct r p → has (fresh .called) p ≡ true
+    module _ (answers : Correct r x → Called q (opening r x id digest m) x (holdAt hs x) (doneAt ds x) x)
+        (spreads : (sl : ℕ) → Matches q sl (opening r x id digest m) → Cause r hs ds x (opening r x id digest m) sl → Spread r os hs ds x (opening r x id digest m) sl) where
+      first-call : (p : ℕ) → Correct r p → has ((opening r x id digest m) .called) p ≡ true
           → ((tableAt ts x .count < tableAt ts x .count) × (has (made ts x (tableAt ts x .count) .called) p ≡ true))
-          ⊎ Called q fresh x (holdAt hs p) (doneAt ds p) p
+          ⊎ Called q (opening r x id digest m) x (holdAt hs p) (doneAt ds p) p
       first-call p ok e =
           either (join-back nobody x p seated (rw (orders r (opened x id digest) m .called) at e))
           (λ (z : p ≡ x). inr (rw z (answers (rw z at ok))))
           (λ z. apart (has nobody p) z (nobody-has p))
 
-      pub send-belongs : (s i sl n : ℕ) → Belongs q ts s i sl n
-          → Belongs q (set ts x (changed (tableAt ts x) (tableAt ts x .count) (tableAt ts x .count + 1) fresh)) s i sl n
-      send-belongs =
-          made-belongs v one x seated all size (tableAt ts x .count) room (tableAt ts x .count + 1) fresh m (omega arith) (omega arith) (λ j l d. omega arith)
-          (λ l. absurd (omega arith)) first-call (λ sl g w. inr (spreads sl g w))
-
-      pub send-keeps : Inv r q (set ts x (changed (tableAt ts x) (tableAt ts x .count) (tableAt ts x .count + 1) fresh)) os hs ds
+      pub send-keeps : Grew r q ts (set ts x (changed (tableAt ts x) (tableAt ts x .count) (tableAt ts x .count + 1) (opening r x id digest m))) os hs ds
       send-keeps =
-          made-keeps v one x seated all size (tableAt ts x .count) room (tableAt ts x .count + 1) fresh m (omega arith) (omega arith) (λ j l d. omega arith)
+          made-keeps v one x seated all size (tableAt ts x .count) room (tableAt ts x .count + 1) (opening r x id digest m) m (omega arith) (omega arith) (λ j l d. omega arith)
           (λ l. absurd (omega arith)) first-call (λ sl g w. inr (spreads sl g w))
