@@ -27,10 +27,10 @@ use Rattle.soundness.proofs.Seats.{seat-own}
 use Rattle.kept.proofs.Every.{apart, either, less?, and2, and-both, implies-out, not-in, not-out, every-at}
 use Rattle.kept.proofs.Facts.{noPackets, inside, entry-out}
 use Rattle.agreement.proofs.Invariant.{Correct, holdAt, doneAt, made, Made, Holds, Under, Belongs, Served, Cause, settled, delivered}
-use Rattle.agreement.proofs.Keeping.{holds-less}
-use Rattle.agreement.proofs.Moving.{seated, few}
+use Rattle.agreement.proofs.Keeping.{holds-less, belongs-at}
+use Rattle.agreement.proofs.Moving.{seated, few, keys}
 use Rattle.agreement.proofs.Members.{Good, Member, member-of}
-use Rattle.agreement.proofs.Sendings.{id-finds, belongs-number}
+use Rattle.agreement.proofs.Sendings.{id-finds}
 
 -- a test of two that fails, where one of them holds
 and-no : (a b : Bool) → (a && b) ≡ false → b ≡ true → a ≡ false
@@ -142,7 +142,7 @@ module _ (w : World) (g : Good w) (q : quiet w ≡ true) where
         let d = idle p (h .place) c (omega arith) in
         let top = d .top in
         let b = subst (λ (x : ℕ). Belongs (w .requests) (w .executions) x (e .id) (e .slot) (e .number)) (h .is .sender) (g .inv .third p (h .place) c up) in
-        d .rest .third (sym (belongs-number w (g .facts) b t (sym (h .is .id))) ∙ y) (omega arith)
+        d .rest .third (sym (belongs-at (keys w (g .facts)) k b t (h .is .id) .0) ∙ y) (omega arith)
 
   -- a numbered sending is spread
   cause : {n : ℕ} → 0 < n → (m : Member w n) → Cause (w .roster) (w .holds) (w .delivered) (m .sender) (made (w .executions) (m .sender) (m .place)) (m .called .slot)

@@ -24,17 +24,17 @@ use Rattle.agreement.proofs.Moving.{seated, few}
 use Rattle.agreement.proofs.Members.{Good, Member, member-of, member-belongs}
 use Rattle.agreement.proofs.Agreeing.{agreed}
 
--- what one step leads to
+-- what one step leads to: a good world, and what the step did to it
 pub record Leads (w v : World) : Type 0 where
   pub good : Good v
   pub moves : Moves w v
 
--- nowhere else
+-- a refused step leaves the world
 pub leads-same : {w : World} → Good w → Leads w w
 leads-same g =
     record { good = g; moves = record { inv = g .inv; roster = refl; more = omega arith; belongs = λ s i sl n b. b; still = inl refl } }
 
--- an entry of a sending is found
+-- an entry of a sending passes the test for one
 entry-is : {e : Entry} {stage s i sl : ℕ} → 0 < stage → Of e stage s i sl → isEntry e s i sl ≡ true
 entry-is {e} {stage} {s} {i} {sl} some o =
     let up = o .up in
@@ -67,7 +67,7 @@ module _ (w : World) (g : Good w) where
         held = rw (seat-own (m .server) (seated w (g .facts) (m .server) (m .good))) (held-in (m .server) (m .good) h);
       }
 
--- a number that a step gives
+-- the sending of a number that a step gives
 module _ (w v : World) (g : Good w) (l : Leads w v) (n : ℕ) (before : w .numbered < n) (after : n ≤ v .numbered) where
   -- was delivered by no correct server, since the step delivers nothing
   not-done : (m : Member v n) → Done (made (v .executions) (m .sender) (m .place)) (doneAt (v .delivered) (m .server)) → ⊥

@@ -121,11 +121,6 @@ module _ (w : World) (f : FactsOf w) where
       let a = and2 (ltb i (v .count)) (eqb (executionAt v i .id) id) e in
       id-one (record { seated = t .seated; used = ltb-true i (v .count) (a .0) }) t (eqb-true (executionAt v i .id) id (a .1)))
 
-  -- and its number is that of every sending with its sender and id
-  pub belongs-number : {s i sl n k : ℕ} → Belongs (w .requests) (w .executions) s i sl n → Made (w .executions) s k → made (w .executions) s k .id ≡ i
-      → made (w .executions) s k .number ≡ n
-  belongs-number {s} b t e = ap (λ (j : ℕ). made (w .executions) s j .number) (id-one t (b .there) (e ∙ sym (b .id))) ∙ b .number
-
   -- a number finds its execution
   numbered-at : {s k n : ℕ} → Made (w .executions) s k → made (w .executions) s k .number ≡ n → 0 < n → numberedAt (w .executions) n ≡ index s k
   numbered-at {s} {k} {n} t e some =
