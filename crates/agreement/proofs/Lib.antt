@@ -21,3 +21,9 @@ pub mod Small
 pub mod Pigeon
 pub mod Numbering
 pub mod Sendings
+pub mod Members
+pub mod Quietly
+pub mod Starting
+pub mod Agreeing
+pub mod Rows
+pub mod Theorem

@@ -20,15 +20,14 @@ use Rattle.rules.specs.declared.boxes.Boxes.{Boxes}
 use Rattle.rules.specs.Rules.{withHold, withOutgoing, withDelivered}
 use Rattle.rehearsal.specs.declared.boxing.Touch.{Touch}
 use Rattle.rehearsal.specs.Steps.{boxesOf, putBack}
-use Rattle.kept.proofs.Every.{either, same?, and2, not-out}
+use Rattle.kept.proofs.Every.{and2, not-out}
 use Rattle.kept.proofs.Facts.{noTable, noPackets, noEntries, noItems, FactsOf, place-out, order-low}
 use Rattle.kept.proofs.Facts as facts
 use Rattle.kept.proofs.Masking.{masks-out}
-use Rattle.kept.proofs.Ordering.{ids-differ}
 use Rattle.kept.proofs.Stepping.{few-servers}
 use Rattle.agreement.proofs.Invariant.{Correct, doneAt, tableAt, made, Made, Matches, Inv, InvOf}
 use Rattle.agreement.proofs.Digests.{matches-one}
-use Rattle.agreement.proofs.Sendings.{made-one}
+use Rattle.agreement.proofs.Sendings.{made-one, id-one}
 use Rattle.agreement.proofs.Keeping.{Keys}
 use Rattle.agreement.proofs.Orders.{Grew}
 use Rattle.agreement.proofs.Moves.{Moves}
@@ -55,7 +54,7 @@ module _ (w : World) (f : FactsOf w) where
   few p ok = f .items p (seated p ok) .most
 
   -- an execution in use, and what is known of all
-  used : {s k : ℕ} → Made (w .executions) s k → facts.Made (w .roster) (w .numbered) s k (made (w .executions) s k)
+  pub used : {s k : ℕ} → Made (w .executions) s k → facts.Made (w .roster) (w .numbered) s k (made (w .executions) s k)
   used {s} {k} h =
       let t = f .tables s (h .seated) in
       let l = h .used in
@@ -65,7 +64,7 @@ module _ (w : World) (f : FactsOf w) where
   pub keys : Keys (w .numbered) (w .executions)
   keys =
       record {
-        ids = λ s j k a b e. either (same? j k) (λ (z : j ≡ k). z) (λ (z : j ≢ k). absurd (ids-differ (f .tables s (a .seated)) j k (a .used) (b .used) z e));
+        ids = λ s j k a b e. id-one w f a b e;
         numbers = λ s t j k a b e l. made-one w f a b e l;
         low = λ s k h. order-low (w .roster) (w .numbered) (made (w .executions) s k) (used h .order);
         caller = λ s k h. masks-out (w .roster) s (made (w .executions) s k) (used h .masks) .caller;

@@ -1,16 +1,16 @@
 -- Each of the numbers 1 to M stands at one place; and a search for what stands at one place only finds it. Assumes nothing.
 use mathlib.Core.Path.{_≡_, refl, sym, ap, subst, _∙_}
 use mathlib.Core.Logic.{_≢_}
-use mathlib.Core.Bool.{Bool, true, false}
+use mathlib.Core.Bool.{Bool, true}
 use Prim.Native.Nat.{ℕ, zero, suc, _+_, _-_, _<_, _≤_}
 use native.Mathlib.Omega.{arith}
 use lib.Dec.{eqb}
 use borrow.Author.Tests.{eq-eqb, eqb-true}
 use Rattle.search.specs.declared.Found.the-variants.{At}
-use Rattle.search.specs.Search.{first, any, count}
+use Rattle.search.specs.Search.{first, count}
 use Rattle.search.proofs.Laws.{found-in}
-use Rattle.kept.proofs.Every.{either, test, same?, less?, found-at, found-where, any-in, any-none}
-use Rattle.kept.proofs.Counts.{Numbers, count-none}
+use Rattle.kept.proofs.Every.{either, same?, less?, found-at, found-where, any-in}
+use Rattle.kept.proofs.Counts.{Numbers, count-some}
 
 -- a search for what stands at one place only
 pub first-one : (t : ℕ → Bool) (n k : ℕ) → k < n → t k ≡ true → ((i : ℕ) → i < n → t i ≡ true → i ≡ k) → first t n ≡ At k
@@ -18,7 +18,7 @@ first-one t n k h e one =
     let w = found-where (first t n) (any-in t n k h e) in
     w .1 ∙ ap At (one (w .0) (found-in t n (w .0) (first t n) refl (w .1)) (found-at t n (w .0) (w .1)))
 
--- what stands at one place counts one or more, at two places two or more, and at none nothing
+-- what stands at one place counts one or more, and at two places two or more
 count-up : (t : ℕ → Bool) (i n : ℕ) → i < n → t i ≡ true → 1 ≤ count t n
 unfolding count
 count-up t i zero h e = absurd (omega arith)
@@ -34,10 +34,6 @@ count-two t i j (suc n) l h d e =
     either (same? j n)
     (λ (s : j ≡ n). let a = count-up t i n (omega arith) d in let y : t n ≡ true = rw (← s) e in rw y (omega arith))
     (λ (s : j ≢ n). let a = count-two t i j n l (omega arith) d e in omega arith)
-
-count-any : (t : ℕ → Bool) (n : ℕ) → 0 < count t n → any t n ≡ true
-count-any t n h =
-    test (any t n) (λ e. e) (λ (e : any t n ≡ false). let z = count-none t n (λ k l. any-none t n k e l) in absurd (omega arith))
 
 module _ {f : ℕ → ℕ} {n m : ℕ} (s : Numbers f n m) where
   once-of : (k : ℕ) → 0 < k → k ≤ m → count (λ (i : ℕ). eqb (f i) k) n ≡ 1
@@ -65,5 +61,5 @@ module _ {f : ℕ → ℕ} {n m : ℕ} (s : Numbers f n m) where
   number-some k a b =
       let t : ℕ → Bool = λ (i : ℕ). eqb (f i) k in
       let one = once-of k a b in
-      let w = found-where (first t n) (count-any t n (omega arith)) in
+      let w = found-where (first t n) (count-some t n (omega arith)) in
       (w .0, found-in t n (w .0) (first t n) refl (w .1), eqb-true (f (w .0)) k (found-at t n (w .0) (w .1)))

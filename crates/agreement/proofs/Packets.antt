@@ -9,7 +9,7 @@ use lib.ListN.{length, getD, set, length-set}
 use lib.Seq.{getD-set-same, getD-set-other}
 use Rattle.search.specs.declared.Found.{Found}
 use Rattle.search.specs.declared.Found.the-variants.{At, Nothing}
-use Rattle.search.specs.Search.{isFound, first, any, count}
+use Rattle.search.specs.Search.{isFound, count}
 use Rattle.search.proofs.Laws.{found-in, count-same}
 use Rattle.world.specs.declared.roster.Roster.{Roster}
 use Rattle.world.specs.declared.outgoing.Outgoing.{Outgoing}
@@ -17,7 +17,8 @@ use Rattle.world.specs.declared.outgoing.Packet.{Packet}
 use Rattle.world.specs.declared.outgoing.Sending.{Sending}
 use Rattle.world.specs.Sizes.{servers, outgoingPlaces}
 use Rattle.world.specs.Outgoing.{freePacket, packetFor, packetAt, isFree, freePlace, freePlaces, putPacket, cleared, postedAt, posted, recipient, needed, sentBelow, sent}
-use Rattle.kept.proofs.Every.{apart, cases, either, chosen, same?, found-at, found-where, any-none, not-out, not-in}
+use Rattle.kept.proofs.Every.{apart, either, same?, found-at, not-out}
+use Rattle.kept.proofs.Counts.{count-some}
 use Rattle.kept.proofs.Facts.{noPackets, set-cases}
 use Rattle.agreement.proofs.Invariant.{Goes, Under}
 
@@ -41,15 +42,6 @@ count-drop t u z (suc n) p a b h =
     let c = count-drop t u z n (omega arith) a b h in
     let d = h n (λ y. e (sym y)) in
     rw d (omega arith))
-
--- a count of places at which a test never holds
-count-nowhere : (t : ℕ → Bool) (n : ℕ) → any t n ≡ false → (k : ℕ) → k ≤ n → count t k ≡ 0
-unfolding count
-count-nowhere t n e zero l = refl
-count-nowhere t n e (suc k) l = rw (any-none t n k e (omega arith), count-nowhere t n e k (omega arith))
-
-pub count-some : (t : ℕ → Bool) (n : ℕ) → 0 < count t n → any t n ≡ true
-count-some t n l = either (cases (any t n)) (λ y. y) (λ y. absurd (omega (arith, count-nowhere t n y n (omega arith))))
 
 -- one packet posted
 module _ (o : Outgoing) (k : Packet) (size : length (o .places) ≡ outgoingPlaces) where

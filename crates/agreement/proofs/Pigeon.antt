@@ -16,10 +16,11 @@ use Rattle.world.specs.Roster.{faulty, threshold, faults, strays, goodRoster}
 use Rattle.soundness.specs.Sound.{orderSound}
 use Rattle.kept.proofs.Every.{either, less?, and2, and4, and-both, not-in}
 use Rattle.kept.proofs.Bits.{has-zero, has-suc}
-use Rattle.kept.proofs.Facts.{FactsOf, place-out}
+use Rattle.kept.proofs.Facts.{FactsOf}
 use Rattle.kept.proofs.Masking.{masks-out}
 use Rattle.agreement.proofs.Invariant.{Correct, made, Made}
 use Rattle.agreement.proofs.Small.{Small}
+use Rattle.agreement.proofs.Moving.{used}
 
 -- a server of one mask that is not in another
 record Outside (mask other : ℕ) (k : ℕ) : Type 0 where
@@ -76,10 +77,7 @@ pub correct-caller : (w : World) → FactsOf w → Small (w .executions) → (s 
     → Caller (w .roster) (made (w .executions) s k)
 correct-caller w f small s k there numbered =
     let x = made (w .executions) s k in
-    let t = f .tables s (there .seated) in
-    let top = t .most in
-    let u = there .used in
-    let g = place-out (w .roster) (w .numbered) s _ k x u (t .places k (omega arith)) in
+    let g = used w f there in
     let full = full-mask (w .roster) (w .numbered) x numbered (g .order) in
     let few = few-faulty (w .roster) (f .roster) in
     let o = pigeon servers (x .mask) (w .roster .faulty) (small s k) (omega arith) in

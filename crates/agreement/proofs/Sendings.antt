@@ -121,7 +121,7 @@ module _ (w : World) (f : FactsOf w) where
       let a = and2 (ltb i (v .count)) (eqb (executionAt v i .id) id) e in
       id-one (record { seated = t .seated; used = ltb-true i (v .count) (a .0) }) t (eqb-true (executionAt v i .id) id (a .1)))
 
-  -- its number, too
+  -- a number finds its execution
   numbered-at : {s k n : ℕ} → Made (w .executions) s k → made (w .executions) s k .number ≡ n → 0 < n → numberedAt (w .executions) n ≡ index s k
   numbered-at {s} {k} {n} t e some =
       let a = t .seated in
@@ -131,7 +131,7 @@ module _ (w : World) (f : FactsOf w) where
       (eq-eqb (numberAt (w .executions) (index s k)) n (number-of t ∙ e))
       (λ i h y. counted t h (eqb-true (numberAt (w .executions) i) n y ∙ sym e) (omega arith)))
 
-  -- and its digest the slot
+  -- and an execution's digest the slot of its request
   slot-of : {slot : ℕ} {x : Execution} → Matches (w .requests) slot x → slotOf (w .requests) (x .digest) ≡ slot
   slot-of {slot} {x} m =
       let q = w .requests in

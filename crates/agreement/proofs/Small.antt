@@ -1,10 +1,8 @@
--- Every mask of an execution has bits of the eight servers only: at a start, and behind every step. Assumes nothing.
-use mathlib.Core.Bool.{_&&_}
+-- Every mask of an execution has bits of the eight servers only, at a start and behind every step; `sound` looks at no other bits. Assumes nothing.
 use mathlib.Core.List.{List}
 use Prim.Native.Nat.{ℕ, _+_, _^_, _<_}
 use native.Mathlib.Omega.{arith}
 use lib.Bits.{or-lt}
-use lib.Count.{ones}
 use lib.Dec.{eqb, ltb}
 use lib.ListN.{set}
 use lib.Pow.{pow-lt}
@@ -15,10 +13,8 @@ use Rattle.world.specs.declared.World.{World}
 use Rattle.world.specs.declared.roster.Roster.{Roster}
 use Rattle.world.specs.declared.execution.Execution.{Execution}
 use Rattle.world.specs.declared.execution.Executions.{Executions}
-use Rattle.world.specs.declared.execution.Ordered.{Ordered}
 use Rattle.world.specs.Sizes.{servers, executionsMost}
-use Rattle.world.specs.Masks.{join}
-use Rattle.world.specs.Roster.{threshold}
+use Rattle.world.specs.Masks.{nobody, join}
 use Rattle.world.specs.Executions.{executionAt, noExecution, opened, called, ordered, freshExecutions, unusedExecution}
 use Rattle.world.specs.Fresh.{freshWorld}
 use Rattle.rules.specs.declared.boxes.Boxes.{Boxes}
@@ -28,40 +24,44 @@ use Rattle.schedule.specs.Records.{Asked, Request, Multicast, Arrive, Propose, 
 use Rattle.rehearsal.specs.Steps.{stepOf}
 use Rattle.kept.proofs.Every.{chosen, musts}
 use Rattle.kept.proofs.Facts.{noTable}
+use Rattle.kept.proofs.Ordering.{changed}
 use Rattle.agreement.proofs.Invariant.{tableAt}
 use Rattle.agreement.proofs.Lists.{set-both, filled}
+use Rattle.agreement.proofs.Orders.{orders}
 
-abbrev pub Low : Executions → Type 0
-Low t = (k : ℕ) → executionAt t k .mask < 2 ^ servers
+-- a mask of the eight servers
+abbrev Eight : ℕ → Type 0
+Eight mask = mask < 2 ^ servers
+
+abbrev Low : Executions → Type 0
+Low t = (k : ℕ) → Eight (executionAt t k .mask)
 
 abbrev pub Small : List Executions → Type 0
 Small ts = (s : ℕ) → Low (tableAt ts s)
 
-join-small : (m i : ℕ) → m < 2 ^ servers → join m i < 2 ^ servers
+join-small : (m i : ℕ) → Eight m → Eight (join m i)
 unfolding join
-join-small m i h = chosen (λ (x : ℕ). x < 2 ^ servers) (ltb i servers) _ _ (λ e. or-lt servers m (2 ^ i) h (pow-lt (ltb-true i servers e))) (λ _. h)
+join-small m i h = chosen Eight (ltb i servers) _ _ (λ e. or-lt servers m (2 ^ i) h (pow-lt (ltb-true i servers e))) (λ _. h)
 
--- the orderer leaves a mask as it is
-ordered-small : (r : Roster) (e : Execution) (m : ℕ) → e .mask < 2 ^ servers → ordered r e m .execution .mask < 2 ^ servers
-unfolding ordered
-ordered-small r e m h =
-    chosen (λ (o : Ordered). o .execution .mask < 2 ^ servers) (eqb (e .number) 0 && eqb (ones (e .mask)) (threshold r)) _ _ (λ _. h) (λ _. h)
+-- an execution in a table
+put-low : (r : Roster) (e : Execution) (m : ℕ) (t : Executions) (place count : ℕ) → Eight (e .mask) → Low t → Low (changed t place count (ordered r e m .execution))
+put-low r e m t place count h f k =
+    set-both (λ (x : Execution). Eight (x .mask)) (t .table) place k (ordered r e m .execution) noExecution (rw (orders r e m .mask) h) (f k)
 
 module _ (r : Roster) (b : Boxes) (f : Low (b .executions)) where
   made-small : (sender id : ℕ) (digest : List ℕ) → Low (made r sender id digest b .executions)
   unfolding made
-  made-small sender id digest k =
-      set-both (λ (x : Execution). x .mask < 2 ^ servers) (b .executions .table) (b .executions .count) k _ noExecution
-      (ordered-small r (opened sender id digest) (b .numbered) (join-small 0 sender (omega arith))) (f k)
+  made-small sender id digest =
+      let t = b .executions in
+      put-low r (opened sender id digest) (b .numbered) t (t .count) (t .count + 1) (join-small nobody sender (omega arith)) f
 
   recorded-small : (server place : ℕ) → Low (recorded r server place b .executions)
   unfolding recorded
-  recorded-small server place k =
-      let x = executionAt (b .executions) place in
-      set-both (λ (x : Execution). x .mask < 2 ^ servers) (b .executions .table) place k _ noExecution
-      (ordered-small r (called x server) (b .numbered)
-      (chosen (λ (m : ℕ). m < 2 ^ servers) (eqb (x .number) 0) _ _ (λ _. join-small (x .mask) server (f place)) (λ _. f place)))
-      (f k)
+  recorded-small server place =
+      let t = b .executions in
+      let x = executionAt t place in
+      put-low r (called x server) (b .numbered) t place (t .count)
+      (chosen Eight (eqb (x .number) 0) _ _ (λ _. join-small (x .mask) server (f place)) (λ _. f place)) f
 
 abbrev Leaves : Stepped → Type 0
 Leaves s = Low (s .boxes .executions)
@@ -144,5 +144,5 @@ step-small w (ForgeReceive server sender id digest) f = put-small (w .executions
 pub start-small : (n faulty : ℕ) → Small (freshWorld n faulty .executions)
 unfolding freshWorld freshExecutions
 start-small n faulty s k =
-    filled (λ (t : Executions). executionAt t k .mask < 2 ^ servers) servers s freshExecutions noTable
-    (filled (λ (x : Execution). x .mask < 2 ^ servers) executionsMost k unusedExecution noExecution (omega arith) (omega arith)) (omega arith)
+    filled (λ (t : Executions). Eight (executionAt t k .mask)) servers s freshExecutions noTable
+    (filled (λ (x : Execution). Eight (x .mask)) executionsMost k unusedExecution noExecution (omega arith) (omega arith)) (omega arith)

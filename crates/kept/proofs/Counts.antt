@@ -6,14 +6,18 @@ use Prim.Native.Nat.{ℕ, zero, suc, _+_, _<_, _≤_}
 use native.Mathlib.Omega.{arith}
 use lib.Dec.{eqb}
 use borrow.Author.Tests.{eq-eqb, ne-eqb}
-use Rattle.search.specs.Search.{count}
+use Rattle.search.specs.Search.{any, count}
 use Rattle.search.proofs.Laws.{count-same}
-use Rattle.kept.proofs.Every.{either, same?}
+use Rattle.kept.proofs.Every.{either, test, same?, any-none}
 
-pub count-none : (t : ℕ → Bool) (n : ℕ) → ((i : ℕ) → i < n → t i ≡ false) → count t n ≡ 0
+count-none : (t : ℕ → Bool) (n : ℕ) → ((i : ℕ) → i < n → t i ≡ false) → count t n ≡ 0
 unfolding count
 count-none t zero h = refl
 count-none t (suc n) h = rw (h n (omega arith), count-none t n (λ i p. h i (omega arith)))
+
+-- where something is counted, a search finds it
+pub count-some : (t : ℕ → Bool) (n : ℕ) → 0 < count t n → any t n ≡ true
+count-some t n l = test (any t n) (λ y. y) (λ (y : any t n ≡ false). let z = count-none t n (λ k h. any-none t n k y h) in absurd (omega arith))
 
 -- one place at which the test holds
 count-one : (t : ℕ → Bool) (z n : ℕ) → z < n → t z ≡ true → ((i : ℕ) → i < n → i ≢ z → t i ≡ false) → count t n ≡ 1
