@@ -1,6 +1,6 @@
 -- Document 01, last paragraph: "A single table, under one theorem, proves A, D, E, H to L of the definitions; the rest is run." A row has the
 -- bytes of a schedule and the whole listing of it: each answer, each item delivered and the count of numbers given, or the refusal and its
--- offset. Both are the document's ("The listing" has A, "Edges" the others): no row was taken from a program.
+-- offset. A is the document's to the byte ("The listing"). Of the others ("Edges") it says what is quoted, and its rules give the rest.
 use Prim.Native.String.{String, _++_}
 use mathlib.Core.Path.{_≡_}
 use mathlib.Core.List.{List, [], _∷_}
@@ -14,7 +14,7 @@ pub record Case : Type 0 where
   pub schedule : List String
   pub listing : List String
 
--- "Case A, 72 bytes"
+-- "Case A, 72 bytes", and what "it prints"
 abbrev pub caseA : Case
 caseA = record {
   name = "A";
