@@ -36,8 +36,7 @@ edgeD = record {
   schedule = "01 01 00" ∷ "02 05 00000001 01" ∷ repeated 24 "41" ∷ "03 00 00" ∷ "06 00 00" ∷ "07 00" ∷ [];
   listing = "world 1 0 1 4"
       ∷ "step 1 0" ∷ "step 2 0" ∷ "step 3 0" ∷ "step 4 0"
-      ∷ "server 0 1 0.1.0"
-      ∷ "numbered 1" ∷ [];
+      ∷ "server 0 1 0.1.0" ∷ "numbered 1" ∷ [];
 }
 
 -- "E: 16 forged sends pass, the next is 10." They are of server 2, the faulty one of three, with ids from 1 on.
