@@ -27,7 +27,7 @@ unfoldable pub unspaced : List ℕ → List ℕ
 unspaced [] = []
 unspaced (c ∷ l) = let rest = unspaced l in cond (eqb c blank) rest (c ∷ rest)
 
--- two digits a byte
+-- two digits a byte; no row has an odd number of them
 unfoldable pub paired : List ℕ → List ℕ
 paired [] = []
 paired (high ∷ []) = []
