@@ -1,0 +1,1 @@
+// No code: specs/ and proofs/ say what document 01's cases print.
