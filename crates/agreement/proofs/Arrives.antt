@@ -1,8 +1,8 @@
 -- An arrive step and a forged packet keep the invariant. Assumes nothing.
-use mathlib.Core.Path.{_≡_, refl, sym, ap, _∙_}
-use mathlib.Core.Logic.{_⊎_, inl, inr, _≢_}
+use mathlib.Core.Path.{_≡_, refl}
+use mathlib.Core.Logic.{inl, inr}
 use mathlib.Core.Bool.{true, false, not, _&&_, _||_}
-use Prim.Native.Nat.{ℕ, _<_, _≤_}
+use Prim.Native.Nat.{ℕ, _<_}
 use native.Mathlib.Omega.{arith}
 use lib.Dec.{eqb, ltb}
 use lib.ListN.{length, getD, set}
@@ -14,7 +14,7 @@ use Rattle.world.specs.declared.hold.Hold.{Hold}
 use Rattle.world.specs.declared.outgoing.Packet.{Packet}
 use Rattle.world.specs.Sizes.{servers, outgoingPlaces, holdPlaces}
 use Rattle.world.specs.Roster.{member, faulty}
-use Rattle.world.specs.Outgoing.{freePacket, packetAt, packetFor, freePlace, posted, cleared}
+use Rattle.world.specs.Outgoing.{freePacket, packetAt, freePlace, cleared}
 use Rattle.world.specs.Hold.{entryOf, entryAt, isEntry, holding, vacancy, kept}
 use Rattle.world.specs.Boxes.{seat}
 use Rattle.soundness.proofs.Seats.{seat-own}
@@ -22,10 +22,10 @@ use Rattle.soundness.proofs.Seats as seats
 use Rattle.rules.specs.declared.boxes.Stepped.{Stepped}
 use Rattle.rules.specs.Rules.{arriveOf, forgePacketOf}
 use Rattle.rehearsal.specs.Steps.{touch, boxesOf, putBack}
-use Rattle.kept.proofs.Every.{apart, either, musts, must-cases, test, and2, and3, and4, found-at, found-where, and-both, not-out, not-no}
+use Rattle.kept.proofs.Every.{apart, either, musts, must-cases, test, and2, and4, found-at, found-where, and-both, not-out, not-no}
 use Rattle.kept.proofs.Facts.{noPackets, noEntries, noItems, FactsOf, inside}
 use Rattle.kept.proofs.Places.{packet-out}
-use Rattle.agreement.proofs.Invariant.{Correct, holdAt, Of, Holds, Goes, Under, Inv, InvOf}
+use Rattle.agreement.proofs.Invariant.{Correct, holdAt, Holds, Goes, Inv, InvOf}
 use Rattle.agreement.proofs.Keeping.{packets-keep}
 use Rattle.agreement.proofs.Entries.{entry-kept, kept-holds}
 use Rattle.agreement.proofs.Packets.{posted-ways, cleared-ways, under-still}

@@ -1,12 +1,11 @@
 -- A deliver step keeps the invariant. Assumes nothing.
-use mathlib.Core.Path.{_≡_, refl, sym, ap, _∙_}
-use mathlib.Core.Logic.{_⊎_, inl, inr, _≢_}
-use mathlib.Core.Bool.{true, not}
-use mathlib.Core.List.{List}
-use Prim.Native.Nat.{ℕ, _+_, _<_, _≤_}
+use mathlib.Core.Path.{_≡_, refl, sym}
+use mathlib.Core.Logic.{inl}
+use mathlib.Core.Bool.{not}
+use Prim.Native.Nat.{ℕ, _+_, _<_}
 use native.Mathlib.Omega.{arith}
 use lib.Dec.{eqb}
-use lib.ListN.{length, getD, set}
+use lib.ListN.{length}
 use lib.Seq.{set-getD, getD-set-same}
 use borrow.Author.Tests.{eqb-true}
 use Rattle.search.specs.declared.Found.{Found}
@@ -24,7 +23,7 @@ use Rattle.rehearsal.specs.Steps.{touch, boxesOf, putBack}
 use Rattle.kept.proofs.Every.{musts, and2, and-both, found-at}
 use Rattle.kept.proofs.Facts.{noPackets, noItems, FactsOf, entry-out}
 use Rattle.kept.proofs.Delivering.{third-number}
-use Rattle.agreement.proofs.Invariant.{Correct, holdAt, doneAt, made, Made, Matches, Of, Done, InvOf}
+use Rattle.agreement.proofs.Invariant.{Correct, holdAt, doneAt, InvOf}
 use Rattle.agreement.proofs.Keeping.{belongs-at}
 use Rattle.agreement.proofs.Entries.{entry-freed}
 use Rattle.agreement.proofs.Items.{item-keeps, itemOf}

@@ -1,16 +1,15 @@
 -- The invariant stays where one entry is put into a hold: a new one, one at a later stage, or none. Assumes nothing.
-use mathlib.Core.Path.{_≡_, refl, sym, ap, _∙_}
+use mathlib.Core.Path.{_≡_, refl, ap, _∙_}
 use mathlib.Core.Logic.{_⊎_, inl, inr, _≢_}
 use mathlib.Core.Bool.{true}
 use mathlib.Core.List.{List}
-use Prim.Native.Nat.{ℕ, _+_, _<_, _≤_}
+use Prim.Native.Nat.{ℕ, _<_, _≤_}
 use native.Mathlib.Omega.{arith}
 use lib.Dec.{eqb}
-use lib.ListN.{length, getD, set}
+use lib.ListN.{length, set}
 use lib.Seq.{getD-set-same}
 use borrow.Author.Tests.{eqb-true}
 use Rattle.search.specs.declared.Found.{Found}
-use Rattle.search.specs.declared.Found.the-variants.{At, Nothing}
 use Rattle.search.specs.Search.{isFound}
 use Rattle.search.proofs.Laws.{found-in}
 use Rattle.world.specs.declared.roster.Roster.{Roster}

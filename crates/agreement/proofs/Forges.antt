@@ -1,9 +1,8 @@
 -- A forged send and a forged receive keep the invariant. Assumes nothing.
-use mathlib.Core.Path.{_≡_, refl, sym, ap, _∙_}
-use mathlib.Core.Logic.{_≢_}
+use mathlib.Core.Path.{_≡_, refl, sym, _∙_}
 use mathlib.Core.Bool.{true, false, not, _&&_}
 use mathlib.Core.List.{List}
-use Prim.Native.Nat.{ℕ, _<_, _≤_}
+use Prim.Native.Nat.{ℕ, _<_}
 use native.Mathlib.Omega.{arith}
 use lib.Dec.{ltb}
 use lib.Seq.{set-getD}
@@ -25,7 +24,7 @@ use Rattle.rehearsal.specs.Steps.{touch, boxesOf, putBack}
 use Rattle.kept.proofs.Every.{apart, musts, and2, not-out}
 use Rattle.kept.proofs.Facts.{noPackets, noEntries, FactsOf}
 use Rattle.kept.proofs.Ordering.{found-made, not-found}
-use Rattle.agreement.proofs.Invariant.{Correct, tableAt, Matches, Spread, Cause, sender, settled, delivered, InvOf}
+use Rattle.agreement.proofs.Invariant.{Correct, tableAt, Cause, sender, settled, delivered, InvOf}
 use Rattle.agreement.proofs.Orders.{orders, orders-more, opening, not-delivered, send-keeps, call-keeps}
 use Rattle.agreement.proofs.Moves.{Moves}
 use Rattle.agreement.proofs.Moving.{at, one, named, few, good, stays, ordered}

@@ -1,6 +1,6 @@
 -- The invariant of demand 3, over the boxes that each part speaks of; where a step leaves those alone, the old proof is the new one.
 use mathlib.Core.Path.{_≡_}
-use mathlib.Core.Logic.{_⊎_, _≢_}
+use mathlib.Core.Logic.{_⊎_}
 use mathlib.Core.Bool.{true}
 use mathlib.Core.List.{List}
 use Prim.Native.Nat.{ℕ, _+_, _<_, _≤_}

@@ -1,11 +1,10 @@
 -- The invariant stays where a server delivers an entry of stage three that has its next number. Assumes nothing.
-use mathlib.Core.Path.{_≡_, refl, sym, ap, _∙_}
-use mathlib.Core.Logic.{_⊎_, inl, inr, _≢_}
+use mathlib.Core.Path.{_≡_, sym, _∙_}
+use mathlib.Core.Logic.{_≢_}
 use mathlib.Core.List.{List}
 use Prim.Native.Nat.{ℕ, _+_, _<_, _≤_}
 use native.Mathlib.Omega.{arith}
-use lib.ListN.{length, getD, set}
-use lib.Seq.{getD-set-same}
+use lib.ListN.{length, set}
 use Rattle.world.specs.declared.roster.Roster.{Roster}
 use Rattle.world.specs.declared.request.Requests.{Requests}
 use Rattle.world.specs.declared.execution.Execution.{Execution}
@@ -21,7 +20,7 @@ use Rattle.world.specs.Delivered.{unusedItem, nextOf, appended}
 use Rattle.world.specs.Boxes.{itemAt}
 use Rattle.kept.proofs.Every.{either, less?}
 use Rattle.kept.proofs.Facts.{noItems, set-cases}
-use Rattle.agreement.proofs.Invariant.{Correct, holdAt, doneAt, made, Made, Matches, Of, Holds, Done, Belongs, Cause, delivered, settled, Inv}
+use Rattle.agreement.proofs.Invariant.{Correct, holdAt, doneAt, made, Made, Matches, Holds, Done, Belongs, Cause, delivered, settled, Inv}
 use Rattle.agreement.proofs.Keeping.{Keys, items-keep}
 
 abbrev pub itemOf : Entry → Item

@@ -1,11 +1,10 @@
 -- The invariant stays where one kind of box changes: packets, entries, items, executions or requests. Assumes nothing.
-use mathlib.Core.Path.{_≡_, refl, sym, ap, _∙_}
-use mathlib.Core.Logic.{_⊎_, inl, inr, _≢_}
+use mathlib.Core.Path.{_≡_, refl, sym, _∙_}
+use mathlib.Core.Logic.{_⊎_, inl, inr}
 use mathlib.Core.Bool.{true}
 use mathlib.Core.List.{List}
-use Prim.Native.Nat.{ℕ, _+_, _-_, _<_, _≤_}
+use Prim.Native.Nat.{ℕ, _-_, _<_, _≤_}
 use native.Mathlib.Omega.{arith}
-use lib.ListN.{getD}
 use Rattle.world.specs.declared.roster.Roster.{Roster}
 use Rattle.world.specs.declared.request.Requests.{Requests}
 use Rattle.world.specs.declared.execution.Execution.{Execution}
@@ -17,7 +16,7 @@ use Rattle.world.specs.Sizes.{servers}
 use Rattle.world.specs.Masks.{has}
 use Rattle.world.specs.Requests.{requestAt}
 use Rattle.kept.proofs.Every.{either}
-use Rattle.agreement.proofs.Invariant.{Correct, holdAt, doneAt, made, Made, Matches, Of, Holds, Under, Done, Belongs, Called, Served, Spread, Cause, sender, settled, delivered, Third, Prefix, Inv}
+use Rattle.agreement.proofs.Invariant.{Correct, holdAt, doneAt, made, Made, Matches, Holds, Under, Done, Belongs, Called, Spread, Cause, sender, settled, delivered, Third, Prefix, Inv}
 
 -- what is the same of an execution that the orderer changes
 pub record Grown (x y : Execution) : Type 0 where

@@ -1,7 +1,7 @@
 -- A multicast step keeps the invariant: its sender holds the sending, and a packet goes to each other server. Assumes nothing.
-use mathlib.Core.Path.{_≡_, refl, sym, ap, _∙_}
-use mathlib.Core.Logic.{_⊎_, inl, inr, _≢_}
-use mathlib.Core.Bool.{true, not, _&&_}
+use mathlib.Core.Path.{_≡_, refl}
+use mathlib.Core.Logic.{inl, inr, _≢_}
+use mathlib.Core.Bool.{true, not}
 use mathlib.Core.List.{List}
 use Prim.Native.Nat.{ℕ, _+_, _<_, _≤_}
 use native.Mathlib.Omega.{arith}
@@ -16,14 +16,13 @@ use Rattle.world.specs.declared.outgoing.Outgoing.{Outgoing}
 use Rattle.world.specs.declared.outgoing.Sending.{Sending}
 use Rattle.world.specs.declared.hold.Entry.{Entry}
 use Rattle.world.specs.declared.hold.Hold.{Hold}
-use Rattle.world.specs.Sizes.{requestsMost, executionsMost, outgoingPlaces, holdPlaces}
+use Rattle.world.specs.Sizes.{executionsMost, outgoingPlaces}
 use Rattle.world.specs.Masks.{nobody, has}
 use Rattle.world.specs.Roster.{member, faulty}
 use Rattle.world.specs.Requests.{requestAt}
 use Rattle.world.specs.Executions.{opened}
 use Rattle.world.specs.Outgoing.{freePlaces, needed, sent}
 use Rattle.world.specs.Hold.{entryOf, vacancy, kept}
-use Rattle.world.specs.Boxes.{within, seat}
 use Rattle.soundness.proofs.Seats.{seat-own}
 use Rattle.rules.specs.declared.boxes.Stepped.{Stepped}
 use Rattle.rules.specs.Rules.{made, multicastDone, roomy, multicastOf}

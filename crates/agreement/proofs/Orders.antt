@@ -1,14 +1,13 @@
 -- The invariant stays where the orderer makes an execution or records a call. Assumes nothing.
-use mathlib.Core.Path.{_≡_, refl, sym, ap, _∙_}
+use mathlib.Core.Path.{_≡_, refl}
 use mathlib.Core.Logic.{_⊎_, inl, inr, _≢_}
-use mathlib.Core.Bool.{true, false, _&&_}
+use mathlib.Core.Bool.{true, _&&_}
 use mathlib.Core.List.{List}
-use Prim.Native.Nat.{ℕ, _+_, _*_, _<_, _≤_}
+use Prim.Native.Nat.{ℕ, _+_, _<_, _≤_}
 use native.Mathlib.Omega.{arith}
 use lib.Count.{ones}
 use lib.Dec.{eqb}
-use lib.ListN.{length, getD, set}
-use lib.Seq.{getD-set-same, getD-set-other}
+use lib.ListN.{length, set}
 use borrow.Author.Tests.{eqb-true}
 use Rattle.world.specs.declared.roster.Roster.{Roster}
 use Rattle.world.specs.declared.request.Requests.{Requests}
@@ -19,11 +18,11 @@ use Rattle.world.specs.declared.outgoing.Outgoing.{Outgoing}
 use Rattle.world.specs.declared.hold.Hold.{Hold}
 use Rattle.world.specs.declared.delivered.Delivered.{Delivered}
 use Rattle.world.specs.Sizes.{servers, executionsMost, deliveredMost}
-use Rattle.world.specs.Masks.{nobody, has, join}
+use Rattle.world.specs.Masks.{nobody, has}
 use Rattle.world.specs.Roster.{threshold}
 use Rattle.world.specs.Executions.{noExecution, nextNumber, executionAt, opened, called, ordered}
-use Rattle.kept.proofs.Every.{apart, either, chosen, same?, and2}
-use Rattle.kept.proofs.Bits.{join-same, join-back, join-keeps, nobody-has}
+use Rattle.kept.proofs.Every.{apart, either, chosen, and2}
+use Rattle.kept.proofs.Bits.{join-back, join-keeps, nobody-has}
 use Rattle.kept.proofs.Facts.{noTable, set-cases}
 use Rattle.kept.proofs.Ordering.{changed}
 use Rattle.agreement.proofs.Invariant.{Correct, holdAt, doneAt, tableAt, made, Made, Matches, Done, Belongs, Called, Spread, Cause, sender, settled, delivered, Inv}

@@ -1,36 +1,32 @@
 -- A propose step keeps the invariant. Assumes nothing.
-use mathlib.Core.Path.{_≡_, refl, sym, ap, _∙_}
-use mathlib.Core.Logic.{_⊎_, inl, inr, _≢_}
+use mathlib.Core.Path.{_≡_, refl, sym, _∙_}
+use mathlib.Core.Logic.{inl, inr}
 use mathlib.Core.Bool.{true, false, not}
-use Prim.Native.Nat.{ℕ, _<_, _≤_}
+use Prim.Native.Nat.{ℕ, _<_}
 use native.Mathlib.Omega.{arith}
-use lib.Dec.{eqb}
 use lib.ListN.{length, set}
 use lib.Seq.{set-getD, getD-set-same}
-use borrow.Author.Tests.{eqb-true}
 use Rattle.search.specs.declared.Found.{Found}
 use Rattle.search.specs.declared.Found.the-variants.{At, Nothing}
 use Rattle.world.specs.declared.World.{World}
 use Rattle.world.specs.declared.hold.Entry.{Entry}
-use Rattle.world.specs.Sizes.{servers, executionsMost}
+use Rattle.world.specs.Sizes.{executionsMost}
 use Rattle.world.specs.Masks.{has}
-use Rattle.world.specs.Roster.{member, faulty}
 use Rattle.world.specs.Requests.{requestAt, sameDigest}
 use Rattle.world.specs.Executions.{executionOf, called}
 use Rattle.world.specs.Hold.{entryOf, entryAt, put}
-use Rattle.world.specs.Boxes.{seat, holdOf}
-use Rattle.soundness.proofs.Seats.{seat-own}
+use Rattle.world.specs.Boxes.{holdOf}
 use Rattle.rules.specs.declared.boxes.Stepped.{Stepped}
 use Rattle.rules.specs.Rules.{raised, recorded, proposeTo, proposeFound, proposeOf}
 use Rattle.rehearsal.specs.Steps.{touch, boxesOf, putBack}
-use Rattle.kept.proofs.Every.{musts, must-cases, and-both, not-no}
+use Rattle.kept.proofs.Every.{musts, must-cases, not-no}
 use Rattle.kept.proofs.Facts.{noPackets, noEntries, FactsOf}
-use Rattle.agreement.proofs.Invariant.{Correct, holdAt, doneAt, tableAt, made, Matches, Of, Holds, Called, Inv, InvOf}
+use Rattle.agreement.proofs.Invariant.{Correct, holdAt, doneAt, tableAt, made, Called, Inv, InvOf}
 use Rattle.agreement.proofs.Entries.{entry-second, put-holds}
 use Rattle.agreement.proofs.Orders.{orders, orders-more, calling, call-keeps}
 use Rattle.agreement.proofs.Moves.{Moves}
-use Rattle.agreement.proofs.Moving.{at, one, named, seated, few, calm-entry, stays, ordered}
-use Rattle.agreement.proofs.Uses.{taken, Uses, uses, its, its-made, its-id, dropped, slot-own}
+use Rattle.agreement.proofs.Moving.{at, one, seated, few, calm-entry, stays, ordered}
+use Rattle.agreement.proofs.Uses.{Uses, uses, its-made, its-id, dropped, entry-moves}
 
 module _ (w : World) (f : FactsOf w) (v : InvOf w) where
   module _ (p : ℕ) (ok : Correct (w .roster) p) (place : ℕ) (first : entryAt (holdAt (w .holds) p) place .stage ≡ 1) where
@@ -94,16 +90,5 @@ module _ (w : World) (f : FactsOf w) (v : InvOf w) where
       Moves w (putBack w t (proposeOf (w .roster) server place (boxesOf w t) .boxes)))
   unfolding proposeOf
   propose-moves server place =
-      let d = entryAt (holdOf w server) place in
-      let t = touch server server (d .sender) (d .slot) in
-      let P : Stepped → Type 0 = λ s. Moves w (putBack w t (s .boxes)) in
-      let same = stays w f t v in
-      musts P (member (w .roster) server) _ _ same λ mine.
-      musts P (not (faulty (w .roster) server)) _ _ same λ good.
-      musts P (eqb (d .stage) 1) _ _ same λ stage.
-      let l = named w f server mine in
-      let ok = and-both mine good in
-      let first = rw (seat-own server l) at (eqb-true (d .stage) 1 stage) in
-      let n = u server ok place first in
-      rw (seat-own server l, seat-own (e server ok place first .sender) (n .sender), slot-own w f (e server ok place first .slot) (n .slot))
-      (proposed server ok place first _ refl)
+      entry-moves w f v 1 (λ z. omega arith) server place (λ b. proposeFound (w .roster) server place b (executionOf (b .executions) (entryAt (b .hold) place .id)))
+      (λ ok first. proposed server ok place first _ refl)

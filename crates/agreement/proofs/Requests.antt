@@ -1,12 +1,12 @@
 -- A request step keeps the invariant: what it stores has no stored digest. Assumes nothing.
-use mathlib.Core.Path.{_≡_, refl, sym, ap, _∙_}
-use mathlib.Core.Logic.{_⊎_, inl, inr, _≢_}
-use mathlib.Core.Bool.{true, false, not}
+use mathlib.Core.Path.{_≡_, refl}
+use mathlib.Core.Logic.{inl}
+use mathlib.Core.Bool.{false, not}
 use mathlib.Core.List.{List}
 use Prim.Native.Nat.{ℕ, _+_, _<_, _≤_}
 use native.Mathlib.Omega.{arith}
 use lib.Dec.{ltb}
-use lib.ListN.{length, set}
+use lib.ListN.{set}
 use lib.Seq.{getD-set-same, getD-set-other}
 use borrow.Author.Tests.{ltb-true, lt-ltb}
 use Rattle.world.specs.declared.World.{World}

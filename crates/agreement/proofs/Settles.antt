@@ -1,7 +1,7 @@
 -- A settle step keeps the invariant: whoever settles has served everyone. Assumes nothing.
-use mathlib.Core.Path.{_≡_, refl, sym, ap, _∙_}
-use mathlib.Core.Logic.{_⊎_, inl, inr, _≢_}
-use mathlib.Core.Bool.{true, false, not, _&&_}
+use mathlib.Core.Path.{_≡_, refl, sym}
+use mathlib.Core.Logic.{inl, inr, _≢_}
+use mathlib.Core.Bool.{true, false, not}
 use mathlib.Core.List.{List}
 use Prim.Native.Nat.{ℕ, _<_, _≤_}
 use native.Mathlib.Omega.{arith}
@@ -16,27 +16,26 @@ use Rattle.world.specs.declared.execution.Execution.{Execution}
 use Rattle.world.specs.declared.outgoing.Outgoing.{Outgoing}
 use Rattle.world.specs.declared.outgoing.Sending.{Sending}
 use Rattle.world.specs.declared.hold.Entry.{Entry}
-use Rattle.world.specs.Sizes.{servers, outgoingPlaces}
+use Rattle.world.specs.Sizes.{outgoingPlaces}
 use Rattle.world.specs.Masks.{has}
 use Rattle.world.specs.Roster.{member, faulty}
 use Rattle.world.specs.Requests.{requestAt, sameDigest}
 use Rattle.world.specs.Executions.{executionOf}
-use Rattle.world.specs.Outgoing.{freePlaces, recipient, needed, sent}
+use Rattle.world.specs.Outgoing.{freePlaces, needed, sent}
 use Rattle.world.specs.Hold.{entryOf, entryAt, put}
-use Rattle.world.specs.Boxes.{seat, holdOf}
-use Rattle.soundness.proofs.Seats.{seat-own}
+use Rattle.world.specs.Boxes.{holdOf}
 use Rattle.rules.specs.declared.boxes.Stepped.{Stepped}
 use Rattle.rules.specs.Rules.{settleTo, settleFound, settleOf}
 use Rattle.rehearsal.specs.Steps.{touch, boxesOf, putBack}
 use Rattle.kept.proofs.Every.{either, test, musts, must-cases, same?, and2, and-both, not-in, not-out, not-no}
 use Rattle.kept.proofs.Facts.{noPackets, noItems, FactsOf}
-use Rattle.agreement.proofs.Invariant.{Correct, holdAt, doneAt, tableAt, made, Made, Matches, Of, Holds, Under, Done, Belongs, Served, Spread, sender, Inv, InvOf}
-use Rattle.agreement.proofs.Keeping.{holds-less, matches-on, packets-keep}
+use Rattle.agreement.proofs.Invariant.{Correct, holdAt, doneAt, tableAt, made, Matches, Under, Belongs, Served, Spread, sender, Inv, InvOf}
+use Rattle.agreement.proofs.Keeping.{holds-less, packets-keep}
 use Rattle.agreement.proofs.Packets.{sent-ways, sent-goes, under-still, under-now}
 use Rattle.agreement.proofs.Entries.{entry-third}
 use Rattle.agreement.proofs.Moves.{Moves}
-use Rattle.agreement.proofs.Moving.{at, one, named, seated, keys, calm, calm-entry, stays}
-use Rattle.agreement.proofs.Uses.{taken, Uses, uses, its-made, its-id, its-only, dropped, slot-own}
+use Rattle.agreement.proofs.Moving.{at, one, seated, keys, calm, calm-entry, stays}
+use Rattle.agreement.proofs.Uses.{Uses, uses, its-made, its-id, its-only, dropped, entry-moves}
 
 module _ (w : World) (f : FactsOf w) (v : InvOf w) where
   module _ (p : ℕ) (ok : Correct (w .roster) p) (place : ℕ) (second : entryAt (holdAt (w .holds) p) place .stage ≡ 2) where
@@ -147,16 +146,5 @@ module _ (w : World) (f : FactsOf w) (v : InvOf w) where
       Moves w (putBack w t (settleOf (w .roster) server place (boxesOf w t) .boxes)))
   unfolding settleOf
   settle-moves server place =
-      let d = entryAt (holdOf w server) place in
-      let t = touch server server (d .sender) (d .slot) in
-      let P : Stepped → Type 0 = λ s. Moves w (putBack w t (s .boxes)) in
-      let same = stays w f t v in
-      musts P (member (w .roster) server) _ _ same λ mine.
-      musts P (not (faulty (w .roster) server)) _ _ same λ good.
-      musts P (eqb (d .stage) 2) _ _ same λ stage.
-      let l = named w f server mine in
-      let ok = and-both mine good in
-      let second = rw (seat-own server l) at (eqb-true (d .stage) 2 stage) in
-      let n = u server ok place second in
-      rw (seat-own server l, seat-own (e server ok place second .sender) (n .sender), slot-own w f (e server ok place second .slot) (n .slot))
-      (settles server ok place second _ refl)
+      entry-moves w f v 2 (λ z. omega arith) server place (λ b. settleFound (w .roster) server place b (executionOf (b .executions) (entryAt (b .hold) place .id)))
+      (λ ok second. settles server ok place second _ refl)

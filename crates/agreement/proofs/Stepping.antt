@@ -1,6 +1,5 @@
 -- Every step keeps the invariant. Assumes nothing.
-use Rattle.world.specs.declared.World.{World}
-use Rattle.schedule.specs.Records.{Asked, Request, Multicast, Arrive, Propose, Settle, Deliver, ForgePacket, ForgeSend, ForgeReceive}
+use Rattle.schedule.specs.Records.{Request, Multicast, Arrive, Propose, Settle, Deliver, ForgePacket, ForgeSend, ForgeReceive}
 use Rattle.rehearsal.specs.Steps.{stepOf}
 use Rattle.agreement.proofs.Moves.{StepMoves}
 use Rattle.agreement.proofs.Requests.{request-moves}

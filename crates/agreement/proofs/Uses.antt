@@ -1,11 +1,10 @@
 -- An entry that a propose or a settle step takes up: where it stands, and the execution that it names. Assumes nothing.
-use mathlib.Core.Path.{_≡_, refl, sym, ap, _∙_}
-use mathlib.Core.Logic.{_⊎_, inl, inr, _≢_}
-use mathlib.Core.Bool.{true, false}
-use Prim.Native.Nat.{ℕ, _<_, _≤_}
+use mathlib.Core.Path.{_≡_, sym, ap, _∙_}
+use mathlib.Core.Logic.{_⊎_, inr, _≢_}
+use mathlib.Core.Bool.{true, false, not}
+use Prim.Native.Nat.{ℕ, _<_}
 use native.Mathlib.Omega.{arith}
 use lib.Dec.{eqb, ltb}
-use lib.ListN.{length, set}
 use borrow.Author.Tests.{ltb-true, lt-ltb, eqb-true}
 use Rattle.search.specs.declared.Found.the-variants.{At}
 use Rattle.world.specs.declared.World.{World}
@@ -13,20 +12,26 @@ use Rattle.world.specs.declared.execution.Execution.{Execution}
 use Rattle.world.specs.declared.hold.Entry.{Entry}
 use Rattle.world.specs.Sizes.{servers, requestsMost, executionsMost, holdPlaces}
 use Rattle.world.specs.Masks.{has}
+use Rattle.world.specs.Roster.{member, faulty}
 use Rattle.world.specs.Requests.{requestAt, sameDigest}
 use Rattle.world.specs.Executions.{executionAt, executionOf}
 use Rattle.world.specs.Hold.{freeEntry, entryAt, freed}
-use Rattle.world.specs.Boxes.{within}
-use Rattle.rehearsal.specs.Steps.{boxesOf, putBack}
-use Rattle.rules.specs.Rules.{withHold}
-use Rattle.kept.proofs.Every.{apart, either, and2, found-at}
+use Rattle.world.specs.Boxes.{within, holdOf}
+use Rattle.soundness.proofs.Seats.{seat-own}
+use Rattle.rehearsal.specs.Steps.{touch, boxesOf, putBack}
+use Rattle.search.specs.Tests.{must}
+use Rattle.rules.specs.declared.answer.Answer.the-variants.{BadServer, WrongSide, NoSuch}
+use Rattle.rules.specs.declared.boxes.Boxes.{Boxes}
+use Rattle.rules.specs.declared.boxes.Stepped.{Stepped}
+use Rattle.rules.specs.Rules.{answered, withHold}
+use Rattle.kept.proofs.Every.{apart, either, musts, and2, and-both, found-at}
 use Rattle.kept.proofs.Facts.{FactsOf, inside, entry-out}
 use Rattle.kept.proofs.Ordering.{found-made}
-use Rattle.agreement.proofs.Invariant.{Correct, holdAt, doneAt, tableAt, made, Made, Matches, Of, Done, InvOf}
+use Rattle.agreement.proofs.Invariant.{Correct, holdAt, tableAt, made, Made, Matches, Of, InvOf}
 use Rattle.agreement.proofs.Keeping.{matches-on}
 use Rattle.agreement.proofs.Entries.{entry-freed}
 use Rattle.agreement.proofs.Moves.{Moves}
-use Rattle.agreement.proofs.Moving.{at, one, named, seated, keys, calm-entry}
+use Rattle.agreement.proofs.Moving.{at, one, named, seated, keys, calm-entry, stays}
 
 module _ (w : World) (f : FactsOf w) (v : InvOf w) (p : ℕ) (ok : Correct (w .roster) p) (place : ℕ) where
   abbrev pub taken : Entry
@@ -85,3 +90,29 @@ module _ (w : World) (f : FactsOf w) (v : InvOf w) (p : ℕ) (ok : Correct (w .r
 -- a stored slot's own place
 pub slot-own : (w : World) → FactsOf w → (slot : ℕ) → slot < w .requests .count → within requestsMost slot ≡ slot
 slot-own w f slot l = rw (lt-ltb slot requestsMost (omega (arith, f .requests .most)))
+
+-- the tests of both steps: 4, 5, and 6 for an entry at another stage
+pub entry-moves : (w : World) (f : FactsOf w) → InvOf w → (n : ℕ) → n ≢ 0 → (server place : ℕ) (next : Boxes → Stepped)
+    → ((ok : Correct (w .roster) server) → entryAt (holdAt (w .holds) server) place .stage ≡ n
+    → (let e = entryAt (holdAt (w .holds) server) place in let t = at server server (e .sender) (e .slot) in Moves w (putBack w t (next (boxesOf w t) .boxes))))
+    → (let e = entryAt (holdOf w server) place in let t = touch server server (e .sender) (e .slot) in let b = boxesOf w t in
+    Moves w
+    (putBack w t
+    (must (member (w .roster) server) (answered BadServer b)
+    (must (not (faulty (w .roster) server)) (answered WrongSide b)
+    (must (eqb (e .stage) n) (answered NoSuch b)
+    (next b))) .boxes)))
+entry-moves w f v n some server place next moves =
+    let d = entryAt (holdOf w server) place in
+    let t = touch server server (d .sender) (d .slot) in
+    let P : Stepped → Type 0 = λ s. Moves w (putBack w t (s .boxes)) in
+    let same = stays w f t v in
+    musts P (member (w .roster) server) _ _ same λ mine.
+    musts P (not (faulty (w .roster) server)) _ _ same λ good.
+    musts P (eqb (d .stage) n) _ _ same λ stage.
+    let l = named w f server mine in
+    let ok = and-both mine good in
+    let e = entryAt (holdAt (w .holds) server) place in
+    let at-stage = rw (seat-own server l) at (eqb-true (d .stage) n stage) in
+    let u = uses w f v server ok place n some at-stage in
+    rw (seat-own server l, seat-own (e .sender) (u .sender), slot-own w f (e .slot) (u .slot)) (moves ok at-stage)

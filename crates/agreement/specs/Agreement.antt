@@ -12,7 +12,6 @@ use Rattle.search.specs.declared.Found.the-variants.{At, Nothing}
 use Rattle.search.specs.Search.{first}
 use Rattle.world.specs.declared.World.{World}
 use Rattle.world.specs.declared.request.Requests.{Requests}
-use Rattle.world.specs.declared.execution.Execution.{Execution}
 use Rattle.world.specs.declared.execution.Executions.{Executions}
 use Rattle.world.specs.declared.delivered.Item.{Item}
 use Rattle.world.specs.Sizes.{servers, requestsMost, executionsMost}
