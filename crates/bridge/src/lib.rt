@@ -1,7 +1,25 @@
-// What C and Rust callers link (`rt staticlib bridge`): numbers and lent bytes only.
+// What C and Rust callers link (`rt staticlib bridge`): numbers, lent bytes, and worlds by value. What passes how is written down on the
+// callers' side, in `tests/bridge`.
 ghost use mathlib.Core.Path.{_≡_};
+ghost use lib.ListN.{length};
 ghost use Rattle.digest.specs.Digest.{digestAnswer};
+ghost use Rattle.soundness.specs.Quiet.{quiet};
+ghost use Rattle.rehearsal.specs.Runs.{startOf, stepped, writtenOf};
+ghost use Rattle.bridge.specs.Bridge.{runOf};
 use digest::Digest;
+use rehearsal::Taken;
+use schedule::Verdict;
+use world::World;
+
+// How a run ended: 0 and the count of records behind the start, or a refusal's number and offset; and the world at its end, a world of zeros
+// where it is refused.
+#[repr(C)]
+pub struct Run {
+    pub offset: usize,
+    pub records: usize,
+    pub number: u8,
+    pub world: World,
+}
 
 // The answer's number; the digest goes into `out`, zeros where the message is refused.
 #[no_mangle]
@@ -13,4 +31,53 @@ pub extern "C" fn staubharfe_sha256(message: &[u8], out: &mut [u8; Digest::BYTES
     let b = d.bytes;
     *out = b;
     d.number
+}
+
+// A fresh world with 0; 25 and a world of zeros where no world may start so.
+#[no_mangle]
+pub extern "C" fn staubharfe_start(n: u8, faulty: u8) -> Taken
+    ensures { λ r. ⌜ r ≡ startOf n faulty ⌝ }
+{
+    rehearsal::start(n, faulty)
+}
+
+// The step of one record: its answer's number, or why it is refused, and the world after.
+#[no_mangle]
+pub extern "C" fn staubharfe_step(world: World, bytes: &[u8]) -> Taken
+    ensures { λ r. ⌜ r ≡ stepped world (now (bytes .entry)) ⌝ }
+{
+    rehearsal::step(world, bytes)
+}
+
+// Runs a schedule and writes one answer for each record behind the start.
+#[no_mangle]
+pub extern "C" fn staubharfe_run(schedule: &[u8], answers: &mut [u8]) -> Run
+    ensures { λ r. ⌜ r ≡ runOf (now (schedule .entry)) (length (now (answers .entry))) ⌝ }
+    ensures { λ r. ⌜ now (answers .exit) ≡ writtenOf (now (schedule .entry)) (now (answers .entry)) ⌝ }
+{
+    let ran = rehearsal::run(schedule, answers);
+    let verdict = ran.verdict;
+    let world = ran.world;
+    match verdict {
+        Verdict::Accepted(records) => Run {
+            offset: 0,
+            records,
+            number: 0,
+            world,
+        },
+        Verdict::Refused(why, offset) => Run {
+            offset,
+            records: 0,
+            number: why.number(),
+            world,
+        },
+    }
+}
+
+// Whether a world is quiet.
+#[no_mangle]
+pub extern "C" fn staubharfe_quiet(world: World) -> bool
+    ensures { λ r. ⌜ r ≡ quiet world ⌝ }
+{
+    rehearsal::quiet(world)
 }

@@ -20,6 +20,7 @@ use schedule::read_at;
 use world::World;
 
 // An answer's number, and the world after.
+#[repr(C)]
 pub struct Taken {
     pub number: u8,
     pub world: World,

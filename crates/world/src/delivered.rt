@@ -4,12 +4,14 @@ ghost use Rattle.world.specs.Delivered.{freshDelivered, nextOf, appended
 use crate::execution::Executions;
 use crate::roster::Roster;
 
+#[repr(C)]
 pub struct Item {
     pub id: u16,
     pub sender: u8,
     pub slot: u8,
 }
 
+#[repr(C)]
 pub struct Delivered {
     pub items: [Item; Delivered::MOST],
     pub count: u32,

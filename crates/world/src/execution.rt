@@ -6,6 +6,7 @@ use crate::roster::Roster;
 use digest::Digest;
 use search::Found;
 
+#[repr(C)]
 pub struct Execution {
     // 0 until it is numbered.
     pub number: u32,
@@ -16,6 +17,7 @@ pub struct Execution {
     pub digest: [u8; Digest::BYTES],
 }
 
+#[repr(C)]
 pub struct Executions {
     pub table: [Execution; Executions::MOST],
     pub count: u8,

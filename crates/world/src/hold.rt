@@ -4,6 +4,7 @@ ghost use Rattle.search.specs.Search.{isFound};
 ghost use Rattle.world.specs.Hold.{entryOf, freeEntry, freshHold, entryAt, isEntry, holding, isReady, readyPlace, vacancy, kept, put};
 use search::Found;
 
+#[repr(C)]
 pub struct Entry {
     // 0 until stage three.
     pub number: u32,
@@ -14,6 +15,7 @@ pub struct Entry {
     pub slot: u8,
 }
 
+#[repr(C)]
 pub struct Hold {
     pub places: [Entry; Hold::PLACES],
 }

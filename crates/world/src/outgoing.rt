@@ -6,6 +6,7 @@ use crate::mask::has;
 use crate::roster::Roster;
 use search::Found;
 
+#[repr(C)]
 pub struct Packet {
     pub id: u16,
     // Whether there is a packet at the place.
@@ -22,6 +23,7 @@ pub struct Sending {
     pub slot: u8,
 }
 
+#[repr(C)]
 pub struct Outgoing {
     pub places: [Packet; Outgoing::PLACES],
 }

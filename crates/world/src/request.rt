@@ -3,6 +3,7 @@ ghost use mathlib.Core.Path.{_≡_};
 ghost use Rattle.world.specs.Requests.{unusedRequest, freshRequests, requestBytes, sameDigest, knownDigest};
 use digest::Digest;
 
+#[repr(C)]
 pub struct Request {
     pub number: u32,
     pub client: u8,
@@ -12,6 +13,7 @@ pub struct Request {
     pub digest: [u8; Digest::BYTES],
 }
 
+#[repr(C)]
 pub struct Requests {
     pub slots: [Request; Requests::MOST],
     pub count: u8,

@@ -3,6 +3,7 @@ ghost use mathlib.Core.Path.{_≡_};
 ghost use Rattle.world.specs.Roster.{member, faulty, strays, faults, threshold, goodRoster};
 use crate::mask::has;
 
+#[repr(C)]
 pub struct Roster {
     pub n: u8,
     pub faulty: u8,

@@ -1,6 +1,7 @@
 //! Compares the proved digest with the one of the second implementation: its number and its bytes.
 
-use bridge::{sha256, DIGEST, DIGEST_LONG, DONE};
+use bridge::world::DIGEST;
+use bridge::{sha256, DIGEST_LONG, DONE};
 use second::hex;
 use second::random::Random;
 use second::sha256::short_digest;

@@ -2,11 +2,13 @@
 
 use std::collections::BTreeSet;
 use std::path::Path;
+use std::{fs, process};
 
 use crate::claims::History;
 use crate::listing;
 use crate::program;
 use crate::quiet;
+use crate::readable;
 use crate::schedule::{self, Ran, Refusal, Refused};
 use crate::sound;
 use crate::steps::{self, Answer, Mistake};
@@ -91,6 +93,19 @@ fn walk(schedule: &[u8], ran: &Ran, answers: &[u8]) -> Result<(), String> {
 /// Says which clause of soundness is broken about a step.
 fn unsound(world: &World, k: usize) -> String {
     format!("step {k}: {} does not hold", sound::broken_clause(world).unwrap_or("a single step's reading"))
+}
+
+/// Shows and saves a small schedule on which a comparison fails, says how it fails, and leaves.
+pub fn report(comparison: &str, file: &str, schedule: &[u8], differs: Result<(), String>) -> ! {
+    print!("{}", readable::of_schedule(schedule));
+    if let Err(why) = differs {
+        println!("{why}");
+    }
+    match fs::write(file, schedule) {
+        Ok(()) => println!("{comparison}: a difference, saved in {file} ({} bytes)", schedule.len()),
+        Err(why) => println!("{comparison}: a difference, which cannot be saved in {file}: {why}"),
+    }
+    process::exit(1);
 }
 
 /// What all schedules together reached.

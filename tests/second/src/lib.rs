@@ -1,9 +1,10 @@
-//! The rehearsal a second time, written from document 01 alone.
+//! The rehearsal a second time, written from document 01 and the readings of its open points, not from the Rattle code.
 //!
 //! The rules: `sha256`, `world`, `steps`, `sound`, `quiet`, `schedule`, `listing`.
 //! The claims about a whole run (demand 3): `claims`.
 //! The comparison with another program: `random`, `draft`, `damage` and `generate` make schedules, `program` runs
 //! the other program, `compare` says where the two differ, `shrink` (with `intent`) makes a differing schedule small.
+//! Timing: `sizes`.
 //! For people: `hex` and `readable`; `draw` (with `story`, `layout` and `svg`) shows a run as a picture.
 
 pub mod claims;
@@ -24,6 +25,7 @@ pub mod readable;
 pub mod schedule;
 pub mod sha256;
 pub mod shrink;
+pub mod sizes;
 pub mod sound;
 pub mod steps;
 pub mod story;

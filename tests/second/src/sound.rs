@@ -35,6 +35,11 @@ pub fn is_sound(world: &World) -> bool {
     broken_clause(world).is_none()
 }
 
+/// The names of the clauses.
+pub fn clauses() -> impl Iterator<Item = &'static str> {
+    CLAUSES.iter().map(|(name, _)| *name)
+}
+
 /// The first clause that does not hold.
 pub fn broken_clause(world: &World) -> Option<&'static str> {
     CLAUSES.iter().find(|(_, holds)| !holds(world)).map(|(name, _)| *name)

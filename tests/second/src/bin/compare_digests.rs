@@ -20,6 +20,10 @@ fn main() {
     let mut options = Options::of_process(USAGE);
     let program: PathBuf = options.word("PROGRAM").into();
     options.end();
+    if let Err(why) = program::run(&program, &[]) {
+        println!("compare_digests: {why}");
+        process::exit(1);
+    }
     let messages = messages();
     let short: Vec<_> = messages.iter().filter(|message| message.len() <= ONE_BLOCK).collect();
     let stride = short.len() / MACHINE;

@@ -6,7 +6,7 @@ use std::time::Instant;
 
 use second::compare::{self, Tally};
 use second::options::Options;
-use second::{generate, program, readable, shrink};
+use second::{generate, program, shrink};
 
 const USAGE: &str = "compare_schedules PROGRAM [--seconds N] [--schedules N] [--seed N]";
 
@@ -71,19 +71,11 @@ fn compare_all(program: &Path, size: &Size) -> Tally {
     tally
 }
 
-/// Shrinks a differing schedule, saves and shows it, and leaves.
+/// Shrinks a differing schedule, shows and saves it, and leaves.
 fn report(program: &Path, seed: u64, index: u64, schedule: &[u8], why: &str) -> ! {
     println!("schedule {index} of seed {seed} differs: {why}");
     println!("shrinking its {} bytes", schedule.len());
     let small = shrink::shrink(schedule, |candidate| compare::check(program, candidate).is_err());
-    let name = format!("difference-{seed}-{index}.bin");
-    print!("{}", readable::of_schedule(&small));
-    if let Err(why) = compare::check(program, &small) {
-        println!("{why}");
-    }
-    match std::fs::write(&name, &small) {
-        Ok(()) => println!("compare_schedules: a difference, saved in {name} ({} bytes)", small.len()),
-        Err(why) => println!("compare_schedules: a difference, which cannot be saved in {name}: {why}"),
-    }
-    process::exit(1);
+    let differs = compare::check(program, &small).map(drop);
+    compare::report("compare_schedules", &format!("difference-{seed}-{index}.bin"), &small, differs);
 }

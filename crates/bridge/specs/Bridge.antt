@@ -1,0 +1,18 @@
+-- What a run tells a caller from outside: numbers in place of the verdict.
+use Prim.Native.Nat.{ℕ}
+use mathlib.Core.List.{List}
+use Rattle.world.specs.declared.World.{World}
+use Rattle.schedule.specs.declared.scanning.Verdict.{Verdict}
+use Rattle.schedule.specs.declared.scanning.Verdict.the-variants.{Accepted, Refused}
+use Rattle.schedule.specs.Judging.{refusalNumber}
+use Rattle.rehearsal.specs.Runs.{ranOf}
+use Rattle.bridge.specs.declared.Run.{Run}
+
+-- 0 and the count of records, or a refusal's number and offset
+abbrev pub told : Verdict → World → Run
+told (Accepted k) w = record { number = 0; offset = 0; records = k; world = w }
+told (Refused why at) w = record { number = refusalNumber why; offset = at; records = 0; world = w }
+
+-- the run of a schedule, with room for so many answers
+unfoldable pub runOf : List ℕ → ℕ → Run
+runOf s room = told (ranOf s room .verdict) (ranOf s room .world)

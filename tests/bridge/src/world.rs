@@ -1,0 +1,149 @@
+//! The layout of a world, as it passes by value: the structs of `crates/world/src`, field by field and in their order, laid out as C does
+//! (`repr(C)` on both sides). `staubharfe.h` says the same for C.
+
+/// The sizes of document 01.
+pub const SERVERS: usize = 8;
+pub const REQUESTS: usize = 128;
+pub const EXECUTIONS: usize = 16;
+pub const PLACES: usize = 64;
+pub const DELIVERIES: usize = SERVERS * EXECUTIONS;
+pub const COMMAND: usize = 24;
+pub const DIGEST: usize = 32;
+
+/// Who takes part, and who of them is faulty.
+#[repr(C)]
+#[derive(Clone, Copy, PartialEq, Eq, Debug)]
+pub struct Roster {
+    pub n: u8,
+    pub faulty: u8,
+}
+
+/// A slot of a request.
+#[repr(C)]
+#[derive(Clone, Copy, PartialEq, Eq, Debug)]
+pub struct Request {
+    pub number: u32,
+    pub client: u8,
+    pub seals: u8,
+    pub command: [u8; COMMAND],
+    pub digest: [u8; DIGEST],
+}
+
+/// The stored requests, by slot.
+#[repr(C)]
+#[derive(Clone, Copy, PartialEq, Eq, Debug)]
+pub struct Requests {
+    pub slots: [Request; REQUESTS],
+    pub count: u8,
+}
+
+/// What the orderer keeps of one sending; number 0 is none.
+#[repr(C)]
+#[derive(Clone, Copy, PartialEq, Eq, Debug)]
+pub struct Execution {
+    pub number: u32,
+    pub id: u16,
+    pub called: u8,
+    pub mask: u8,
+    pub digest: [u8; DIGEST],
+}
+
+/// The executions of one sender, the oldest first.
+#[repr(C)]
+#[derive(Clone, Copy, PartialEq, Eq, Debug)]
+pub struct Executions {
+    pub table: [Execution; EXECUTIONS],
+    pub count: u8,
+}
+
+/// An outgoing place: a packet, or none.
+#[repr(C)]
+#[derive(Clone, Copy, PartialEq, Eq, Debug)]
+pub struct Packet {
+    pub id: u16,
+    pub there: bool,
+    pub to: u8,
+    pub sender: u8,
+    pub slot: u8,
+}
+
+/// The outgoing places of one origin.
+#[repr(C)]
+#[derive(Clone, Copy, PartialEq, Eq, Debug)]
+pub struct Outgoing {
+    pub places: [Packet; PLACES],
+}
+
+/// A hold place: an entry at stage one to three, or, at stage 0, none.
+#[repr(C)]
+#[derive(Clone, Copy, PartialEq, Eq, Debug)]
+pub struct Entry {
+    pub number: u32,
+    pub id: u16,
+    pub stage: u8,
+    pub sender: u8,
+    pub slot: u8,
+}
+
+/// The hold places of one server.
+#[repr(C)]
+#[derive(Clone, Copy, PartialEq, Eq, Debug)]
+pub struct Hold {
+    pub places: [Entry; PLACES],
+}
+
+/// A delivered item.
+#[repr(C)]
+#[derive(Clone, Copy, PartialEq, Eq, Debug)]
+pub struct Item {
+    pub id: u16,
+    pub sender: u8,
+    pub slot: u8,
+}
+
+/// What one server has delivered, the first first.
+#[repr(C)]
+#[derive(Clone, Copy, PartialEq, Eq, Debug)]
+pub struct Delivered {
+    pub items: [Item; DELIVERIES],
+    pub count: u32,
+}
+
+/// The whole world between two steps.
+#[repr(C)]
+#[derive(Clone, Copy, PartialEq, Eq, Debug)]
+pub struct World {
+    pub roster: Roster,
+    pub numbered: u32,
+    pub requests: Requests,
+    pub executions: [Executions; SERVERS],
+    pub outgoing: [Outgoing; SERVERS],
+    pub holds: [Hold; SERVERS],
+    pub delivered: [Delivered; SERVERS],
+}
+
+/// An answer's number, and the world after.
+#[repr(C)]
+#[derive(Clone, Copy, PartialEq, Eq, Debug)]
+pub struct Taken {
+    pub number: u8,
+    pub world: World,
+}
+
+/// How a run ended: 0 and the count of records behind the start, or a refusal's number and offset; and the world at its end.
+#[repr(C)]
+#[derive(Clone, Copy, PartialEq, Eq, Debug)]
+pub struct Run {
+    pub offset: usize,
+    pub records: usize,
+    pub number: u8,
+    pub world: World,
+}
+
+/// The sizes that `staubharfe.h` holds its structs to.
+const _: () = {
+    assert!(size_of::<Request>() == 64 && size_of::<Requests>() == 8196);
+    assert!(size_of::<Execution>() == 40 && size_of::<Executions>() == 644);
+    assert!(size_of::<Packet>() == 6 && size_of::<Entry>() == 12 && size_of::<Item>() == 4);
+    assert!(size_of::<World>() == 26_700);
+};

@@ -1,0 +1,144 @@
+/* The boundary for C: what `rt staticlib bridge` writes to target/staticlib/libbridge.a. The structs are those of crates/world/src,
+ * crates/rehearsal/src/stepping.rt and crates/bridge/src/lib.rt, field by field; src/world.rs says the same for Rust.
+ *
+ * A slice is two parameters, a pointer to its first byte and its length; the pointer is not null, even where the length is 0. A const
+ * pointer's bytes are read and never written. Worlds pass by value. No function keeps a pointer, allocates, or has a precondition. */
+#ifndef STAUBHARFE_H
+#define STAUBHARFE_H
+
+#include <stdbool.h>
+#include <stddef.h>
+#include <stdint.h>
+
+/* The sizes of document 01. */
+enum {
+    STAUBHARFE_SERVERS = 8,
+    STAUBHARFE_REQUESTS = 128,
+    STAUBHARFE_EXECUTIONS = 16,
+    STAUBHARFE_PLACES = 64,
+    STAUBHARFE_DELIVERIES = STAUBHARFE_SERVERS * STAUBHARFE_EXECUTIONS,
+    STAUBHARFE_COMMAND = 24,
+    STAUBHARFE_DIGEST = 32
+};
+
+/* Who takes part, and who of them is faulty. */
+struct staubharfe_roster {
+    uint8_t n;
+    uint8_t faulty;
+};
+
+/* A slot of a request. */
+struct staubharfe_request {
+    uint32_t number;
+    uint8_t client;
+    uint8_t seals;
+    uint8_t command[STAUBHARFE_COMMAND];
+    uint8_t digest[STAUBHARFE_DIGEST];
+};
+
+/* The stored requests, by slot. */
+struct staubharfe_requests {
+    struct staubharfe_request slots[STAUBHARFE_REQUESTS];
+    uint8_t count;
+};
+
+/* What the orderer keeps of one sending; number 0 is none. */
+struct staubharfe_execution {
+    uint32_t number;
+    uint16_t id;
+    uint8_t called;
+    uint8_t mask;
+    uint8_t digest[STAUBHARFE_DIGEST];
+};
+
+/* The executions of one sender, the oldest first. */
+struct staubharfe_executions {
+    struct staubharfe_execution table[STAUBHARFE_EXECUTIONS];
+    uint8_t count;
+};
+
+/* An outgoing place: a packet, or none. */
+struct staubharfe_packet {
+    uint16_t id;
+    bool there;
+    uint8_t to;
+    uint8_t sender;
+    uint8_t slot;
+};
+
+/* The outgoing places of one origin. */
+struct staubharfe_outgoing {
+    struct staubharfe_packet places[STAUBHARFE_PLACES];
+};
+
+/* A hold place: an entry at stage one to three, or, at stage 0, none. */
+struct staubharfe_entry {
+    uint32_t number;
+    uint16_t id;
+    uint8_t stage;
+    uint8_t sender;
+    uint8_t slot;
+};
+
+/* The hold places of one server. */
+struct staubharfe_hold {
+    struct staubharfe_entry places[STAUBHARFE_PLACES];
+};
+
+/* A delivered item. */
+struct staubharfe_item {
+    uint16_t id;
+    uint8_t sender;
+    uint8_t slot;
+};
+
+/* What one server has delivered, the first first. */
+struct staubharfe_delivered {
+    struct staubharfe_item items[STAUBHARFE_DELIVERIES];
+    uint32_t count;
+};
+
+/* The whole world between two steps; numbered is M. */
+struct staubharfe_world {
+    struct staubharfe_roster roster;
+    uint32_t numbered;
+    struct staubharfe_requests requests;
+    struct staubharfe_executions executions[STAUBHARFE_SERVERS];
+    struct staubharfe_outgoing outgoing[STAUBHARFE_SERVERS];
+    struct staubharfe_hold holds[STAUBHARFE_SERVERS];
+    struct staubharfe_delivered delivered[STAUBHARFE_SERVERS];
+};
+
+/* An answer's number, and the world after. */
+struct staubharfe_taken {
+    uint8_t number;
+    struct staubharfe_world world;
+};
+
+/* How a run ended: 0 and the count of records behind the start, or a refusal's number and offset; and the world at its end. */
+struct staubharfe_ran {
+    size_t offset;
+    size_t records;
+    uint8_t number;
+    struct staubharfe_world world;
+};
+
+_Static_assert(sizeof(struct staubharfe_requests) == 8196 && sizeof(struct staubharfe_executions) == 644, "as in src/world.rs");
+_Static_assert(sizeof(struct staubharfe_world) == 26700, "as in src/world.rs");
+
+/* The digest of a message of at most 55 bytes into out, and 0; for a longer one zeros, and 28. */
+uint8_t staubharfe_sha256(const uint8_t *message, size_t length, uint8_t out[STAUBHARFE_DIGEST]);
+
+/* A fresh world with 0; 25 and a world of zeros where no world may start so. */
+struct staubharfe_taken staubharfe_start(uint8_t n, uint8_t faulty);
+
+/* The step of one record: its answer's number, or why it is refused (22, 23, 24, 27), and the world after. */
+struct staubharfe_taken staubharfe_step(struct staubharfe_world world, const uint8_t *record, size_t length);
+
+/* Runs a schedule and writes one answer for each record behind the start; refused (20 to 26), it writes nothing. */
+struct staubharfe_ran staubharfe_run(const uint8_t *schedule, size_t length, uint8_t *answers, size_t room);
+
+/* Whether a world is quiet. */
+bool staubharfe_quiet(struct staubharfe_world world);
+
+#endif
