@@ -27,3 +27,4 @@ pub mod Starting
 pub mod Agreeing
 pub mod Rows
 pub mod Theorem
+pub mod Sanity
