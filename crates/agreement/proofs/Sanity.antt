@@ -9,7 +9,7 @@ use Rattle.world.specs.declared.World.{World}
 use Rattle.world.specs.declared.delivered.Item.{Item}
 use Rattle.world.specs.Roster.{correct}
 use Rattle.world.specs.Delivered.{unusedItem}
-use Rattle.agreement.specs.Agreement.{sendings, sendingAt, deliveredBy, Begins, Agreed}
+use Rattle.agreement.specs.Agreement.{sendingAt, deliveredBy, Begins, Agreed}
 use Rattle.agreement.specs.Sanity.{deliveredAt, OrdersDiffer, DeliveredTwice, LeftBehind, ShutOut, Sane}
 
 -- a beginning has the items of the whole, and is not longer
