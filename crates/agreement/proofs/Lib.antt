@@ -28,3 +28,4 @@ pub mod Agreeing
 pub mod Rows
 pub mod Theorem
 pub mod Returned
+pub mod Sanity

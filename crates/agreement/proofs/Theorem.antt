@@ -25,7 +25,7 @@ unfolding through worldAfter
 through-after w [] = refl
 through-after w (a ∷ l) = through-after (stepOf w a .world) l
 
-by-record : (w : World) (a : Asked) → Good w → Leads w (byRecord w a)
+pub by-record : (w : World) (a : Asked) → Good w → Leads w (byRecord w a)
 by-record w a g =
     let m = steps w a (g .facts) (g .inv) in
     record { good = record { facts = step-facts w a (g .facts); inv = m .inv; small = step-small w a (g .small) }; moves = m }
