@@ -1,6 +1,6 @@
 -- Document 01, "The digest": 0 to 55 bytes have a digest; longer input is refused as 28, with 32 zero bytes.
 use Prim.Native.Nat.{ℕ}
-use mathlib.Core.Bool.{Bool, cond}
+use mathlib.Core.Bool.{cond}
 use mathlib.Core.List.{List}
 use lib.Dec.{ltb}
 use lib.ListN.{length, replicate}

@@ -3,7 +3,7 @@
 use mathlib.Core.Path.{_≡_, refl}
 use Prim.Native.Nat.{ℕ, _+_, _%_, _<_}
 use native.Mathlib.Omega.{arith}
-use mathlib.Core.List.{List, [], _∷_}
+use mathlib.Core.List.{[], _∷_}
 use Rattle.digest.specs.Sha256.{blockBytes, zeros, padded, nextWord, scheduled, roundOf, roundsOf, fed, blockWords, compressed, hashed, stateBytes, digestOf}
 
 -- §5.1.1: `zeros` is the least solution of its congruence

@@ -2,7 +2,6 @@
 use mathlib.Core.Path.{ap, sym, _∙_}
 use mathlib.Core.List.{List}
 use Prim.Native.Nat.{ℕ}
-use Rattle.hex.specs.declared.Line.{Line}
 use Rattle.settled.specs.Settled.{Settled}
 use Rattle.hex.proofs.Line.of.Kinds as of-kinds
 use Rattle.hex.proofs.Line.of.Reads as of-reads

@@ -32,7 +32,7 @@ use Rattle.schedule.specs.Records.{formOf, readBy, readAt, Asked, Request, Mult
 use Rattle.schedule.specs.Judging.{refusalNumber, scheduleMost, scanned, startJudged, recordsJudged, judged}
 use Rattle.rehearsal.specs.declared.running.Ran.{Ran}
 use Rattle.rehearsal.specs.Steps.{stepOf, worldAfter, answersOf}
-use Rattle.rehearsal.specs.Runs.{withRoom, startWorld, ranBy, writtenBy, ranOf, writtenOf}
+use Rattle.rehearsal.specs.Runs.{withRoom, startWorld, ranBy, ranOf, writtenOf}
 use Rattle.rehearsal.proofs.Going.{judged-count}
 use Rattle.listing.specs.Longest.{recordBytesLeast}
 use Rattle.listing.specs.Listing.{refusedLine, runLines, listingBy, listingOf}

@@ -1,7 +1,7 @@
 -- Document 01, "Steps, with tests in order". Each rule is a definition over the boxes that its step touches; the words in quotes are the
 -- document's. A test is `must WHAT-HOLDS ANSWER-IF-NOT NEXT`.
 use Prim.Native.Nat.{ℕ, _+_}
-use mathlib.Core.Bool.{Bool, cond, not, _&&_, _||_}
+use mathlib.Core.Bool.{Bool, not, _&&_, _||_}
 use mathlib.Core.List.{List}
 use lib.Dec.{eqb, ltb, leb}
 use lib.ListN.{set, replicate}
@@ -13,15 +13,10 @@ use Rattle.digest.specs.Digest.{digestBytes}
 use Rattle.world.specs.declared.roster.Roster.{Roster}
 use Rattle.world.specs.declared.request.Request.{Request}
 use Rattle.world.specs.declared.request.Requests.{Requests}
-use Rattle.world.specs.declared.execution.Execution.{Execution}
 use Rattle.world.specs.declared.execution.Executions.{Executions}
 use Rattle.world.specs.declared.execution.Ordered.{Ordered}
 use Rattle.world.specs.declared.outgoing.Outgoing.{Outgoing}
-use Rattle.world.specs.declared.outgoing.Packet.{Packet}
-use Rattle.world.specs.declared.outgoing.Sending.{Sending}
-use Rattle.world.specs.declared.hold.Entry.{Entry}
 use Rattle.world.specs.declared.hold.Hold.{Hold}
-use Rattle.world.specs.declared.delivered.Item.{Item}
 use Rattle.world.specs.declared.delivered.Delivered.{Delivered}
 use Rattle.world.specs.Sizes.{requestsMost, executionsMost}
 use Rattle.world.specs.Masks.{nobody, has}

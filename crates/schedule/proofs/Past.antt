@@ -1,11 +1,10 @@
 -- Fields past the end of a schedule, and the law of the loops that read several bytes. Assumes nothing.
-use mathlib.Core.Path.{_≡_, refl, sym, ap, _∙_}
+use mathlib.Core.Path.{_≡_, refl, ap, _∙_}
 use mathlib.Core.List.{List, [], _∷_, _++_}
 use Prim.Native.Nat.{ℕ, zero, suc, _+_, _≤_, _<_}
 use native.Mathlib.Numerals.{add-one}
 use native.Mathlib.Omega.{arith}
 use lib.ListN.{length, take, set, replicate}
-use lib.Seq.{append-snoc}
 use Rattle.digest.proofs.Filling.{stored}
 use Rattle.world.proofs.Lists.{getD-out}
 use Rattle.schedule.specs.Fields.{byteAt, twoAt, fourAt, bytesAt}

@@ -1,6 +1,5 @@
 -- Document 01, "Refusing a whole schedule": tests 20 to 25, in its order.
 use Prim.Native.Nat.{ℕ, zero, suc, _+_, _-_}
-use mathlib.Core.Bool.{cond}
 use mathlib.Core.List.{List}
 use lib.Dec.{leb}
 use lib.ListN.{length}

@@ -12,7 +12,6 @@ use Rattle.schedule.specs.declared.kinds.Kind.{Kind}
 use Rattle.schedule.specs.declared.kinds.Kind.the-variants as kind
 use Rattle.schedule.specs.declared.kinds.Form.{Form}
 use Rattle.schedule.specs.declared.kinds.Form.the-variants.{Start, Step, Bad}
-use Rattle.schedule.specs.declared.reading.Refusal.{Refusal}
 use Rattle.schedule.specs.declared.reading.Refusal.the-variants.{BadKind, SecondStart, Cut}
 use Rattle.schedule.specs.declared.reading.Read.{Read}
 use Rattle.schedule.specs.declared.reading.Read.the-variants.{Record, Refused, End}

@@ -1,11 +1,11 @@
 -- Laws of masks as the code tests and joins them. Assumes nothing.
-use mathlib.Core.Path.{_≡_, sym, ap, _∙_}
-use mathlib.Core.Bool.{Bool, true, false}
+use mathlib.Core.Path.{_≡_}
+use mathlib.Core.Bool.{false}
 use Prim.Native.Nat.{ℕ, _*_, _/_, _%_, _^_, _≤_, _<_}
 use native.Mathlib.Omega.{arith}
 use native.Mathlib.Nat.{div-eq-of-lt, mod-eq-of-lt, lt-of-lt-of-le}
 use lib.Bits.{bitAnd, bitOr, and-mask}
-use lib.Dec.{eqb, ltb}
+use lib.Dec.{eqb}
 use lib.Pow.{pow-mono, pow-lt}
 use borrow.Author.Tests.{lt-ltb, le-ltb}
 use Rattle.world.specs.Masks.{has, join}

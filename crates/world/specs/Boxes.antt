@@ -2,7 +2,7 @@
 -- the name before it looks at the box.
 use Prim.Native.Nat.{ℕ}
 use mathlib.Core.Bool.{cond}
-use mathlib.Core.List.{List, []}
+use mathlib.Core.List.{[]}
 use lib.Dec.{ltb}
 use lib.ListN.{getD}
 use Rattle.world.specs.declared.World.{World}

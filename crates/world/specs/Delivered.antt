@@ -1,5 +1,5 @@
 -- What one server has delivered, in order.
-use Prim.Native.Nat.{ℕ, _+_}
+use Prim.Native.Nat.{ℕ}
 use lib.ListN.{set, replicate}
 use Rattle.world.specs.declared.delivered.Item.{Item}
 use Rattle.world.specs.declared.delivered.Delivered.{Delivered}

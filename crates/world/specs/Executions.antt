@@ -1,10 +1,10 @@
 -- Document 01, "The orderer": the executions of one sender, oldest first.
 use Prim.Native.Nat.{ℕ, _+_, _%_, _^_}
-use mathlib.Core.Bool.{Bool, cond, _&&_}
+use mathlib.Core.Bool.{cond, _&&_}
 use mathlib.Core.List.{List, []}
 use lib.Count.{ones}
 use lib.Dec.{eqb, ltb}
-use lib.ListN.{getD, set, replicate}
+use lib.ListN.{getD, replicate}
 use Rattle.search.specs.declared.Found.{Found}
 use Rattle.search.specs.Search.{first}
 use Rattle.digest.specs.Digest.{digestBytes}
