@@ -31,8 +31,8 @@ use Rattle.agreement.specs.Sanity.{LeftBehind}
 use Rattle.agreement.proofs.Members.{Good}
 use Rattle.agreement.proofs.Rows.{Leads}
 
--- "Recording a call that gave a wrong digest, so the true copy that comes later is taken for a repeat." Where the
--- digest differs the entry is freed, as it should be, but the call is recorded first.
+-- "Recording a call that gave a wrong digest, so the true copy that comes later is taken for a repeat." Where the digest differs the entry is
+-- freed, as it should be, but the call is recorded as in the last line, in the mask too.
 unfoldable pub recordingWrong : Roster → ℕ → ℕ → ℕ → Boxes → Stepped
 recordingWrong r server place k b =
     let x = executionAt (b .executions) k in
