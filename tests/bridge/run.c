@@ -1,4 +1,5 @@
-/* The worked example for C: runs a schedule from standard input and prints its listing, as `rehearse` does. From the repository's folder:
+/* The worked example for C: runs a schedule from standard input and prints its listing, as `rehearse` does. From the
+ * repository's folder:
  *
  *     rt staticlib bridge
  *     cc -std=c11 -I tests/bridge -o target/run_c tests/bridge/run.c target/staticlib/libbridge.a

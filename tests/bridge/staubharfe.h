@@ -1,8 +1,10 @@
-/* The boundary for C: what `rt staticlib bridge` writes to target/staticlib/libbridge.a. The structs are those of crates/world/src,
- * crates/rehearsal/src/stepping.rt and crates/bridge/src/lib.rt, field by field; src/world.rs says the same for Rust.
+/* The boundary for C: what `rt staticlib bridge` writes to target/staticlib/libbridge.a. The structs are those of
+ * crates/world/src, crates/rehearsal/src/stepping.rt and crates/bridge/src/lib.rt, field by field; src/world.rs says
+ * the same for Rust.
  *
- * A slice is two parameters, a pointer to its first byte and its length; the pointer is not null, even where the length is 0. A const
- * pointer's bytes are read and never written. Worlds pass by value. No function keeps a pointer, allocates, or has a precondition. */
+ * A slice is two parameters, a pointer to its first byte and its length; the pointer is not null, even where the length
+ * is 0. A const pointer's bytes are read and never written. Worlds pass by value. No function keeps a pointer,
+ * allocates, or has a precondition. */
 #ifndef STAUBHARFE_H
 #define STAUBHARFE_H
 
@@ -115,7 +117,8 @@ struct staubharfe_taken {
     struct staubharfe_world world;
 };
 
-/* How a run ended: 0 and the count of records behind the start, or a refusal's number and offset; and the world at its end. */
+/* How a run ended: 0 and the count of records behind the start, or a refusal's number and offset; and the world at its
+ * end, a world of zeros where it is refused. */
 struct staubharfe_ran {
     size_t offset;
     size_t records;
@@ -123,7 +126,8 @@ struct staubharfe_ran {
     struct staubharfe_world world;
 };
 
-_Static_assert(sizeof(struct staubharfe_requests) == 8196 && sizeof(struct staubharfe_executions) == 644, "as in src/world.rs");
+_Static_assert(sizeof(struct staubharfe_requests) == 8196, "as in src/world.rs");
+_Static_assert(sizeof(struct staubharfe_executions) == 644, "as in src/world.rs");
 _Static_assert(sizeof(struct staubharfe_world) == 26700, "as in src/world.rs");
 
 /* The digest of a message of at most 55 bytes into out, and 0; for a longer one zeros, and 28. */

@@ -1,4 +1,4 @@
-//! Damages of worlds that runs have reached: one for each clause of soundness, some that leave a world sound, and any other.
+//! Damages of worlds: one for each clause of soundness, some that leave a world sound, and any value in any field.
 
 use second::random::Random;
 
@@ -7,7 +7,7 @@ use crate::world::{Entry, Execution, Packet, Request, World, DELIVERIES, EXECUTI
 /// A damage: the name of what it breaks or leaves, and the change. None where the world has nothing of the kind.
 pub type Damage = (&'static str, fn(&mut World) -> Option<()>);
 
-/// An id that no generated schedule uses.
+/// An id that no execution of a generated schedule has.
 const UNKNOWN_ID: u16 = 0xD1ED;
 
 /// A damage for each clause of soundness, under the name that the second implementation gives the clause.

@@ -10,10 +10,11 @@
 //! | `&mut [u8; N]` | one parameter, `*mut [u8; N]`; all N bytes may be written, and no others |
 //! | `World`, `Taken`, `Run` | the struct of that name in `world`, by value: the caller's own world is never written |
 //!
-//! Nothing checks these declarations against `crates/bridge/src/lib.rt`, nor the structs against `crates/world/src`: whoever changes one
-//! changes the other, and `staubharfe.h`, which says the same for C. The tests here hold every field of worlds that runs reach to the second
-//! implementation's. No exported function has a `requires`, so the wrappers have nothing to test; what they owe is that the bytes behind a
-//! pointer are there, and are lent to nobody else while the call runs.
+//! Nothing checks these declarations against `crates/bridge/src/lib.rt`, nor the structs against `crates/world/src`:
+//! whoever changes one changes the other, and `staubharfe.h`, which says the same for C. The comparisons here would
+//! show it: they hold every field of worlds that runs reach to the second implementation's. No exported function has a
+//! `requires`, so the wrappers have nothing to test; what they owe is that the bytes behind a pointer are there, and
+//! are lent to nobody else while the call runs.
 
 pub mod damage;
 pub mod translate;

@@ -4,7 +4,8 @@ use crate::world::{Delivered, Entry, Execution, Executions, Item, Packet, Reques
 use second::world as other;
 use second::world::{List, Sending};
 
-/// The same world in the second implementation's types; none where a number is larger than these hold, which no sound world has.
+/// The same world in the second implementation's types; none where a number is larger than they hold, as in no sound
+/// world.
 pub fn to_second(world: &World) -> Option<other::World> {
     let mut servers = [<other::Server as other::Zeros>::ZEROS; other::World::SERVERS];
     for (place, server) in servers.iter_mut().enumerate() {

@@ -9,8 +9,8 @@ use crate::translate::to_second;
 use crate::world::{Taken, World};
 use crate::{run, start, step, BAD_WORLD, DONE};
 
-/// About how many worlds of one schedule are damaged, sampled evenly.
-const DAMAGED: usize = 24;
+/// About how many worlds of one schedule are looked at, sampled evenly.
+const LOOKS: usize = 24;
 
 /// How many times each of them is scratched.
 const SCRATCHES: usize = 8;
@@ -46,17 +46,18 @@ impl Tally {
         }
     }
 
-    /// The same answers and the same world at the end, from a run, from single steps, and from the second implementation.
+    /// The same answers and the same end from a run, from single steps, and from the second implementation.
     fn walk_accepted(&mut self, bytes: &[u8], steps: Steps, mut random: Random) -> Result<(), String> {
         let (ran, answers) = same_run(bytes)?;
-        let stride = answers.len().div_ceil(DAMAGED).max(1);
+        let stride = answers.len().div_ceil(LOOKS).max(1);
         let mut world = same_start(bytes[1], bytes[2])?;
         for (k, ((offset, _), answer)) in (1..).zip(steps.zip(answers)) {
             let record = &bytes[offset..];
-            if k % stride == 0 {
-                self.damage(&world, record, &mut random).map_err(|why| format!("before step {k}: {why}"))?;
-            }
-            let taken = step(&world, record);
+            let taken = if k % stride == 0 {
+                self.look(&world, record, &mut random).map_err(|why| format!("before step {k}: {why}"))?
+            } else {
+                step(&world, record)
+            };
             if taken.number != answer {
                 return Err(format!("step {k}: a run answers {answer}, a single step {}", taken.number));
             }
@@ -64,11 +65,12 @@ impl Tally {
             self.steps += 1;
         }
         ensure(world == ran, "a run and single steps end in different worlds")?;
-        self.damage(&world, &DELIVER, &mut random).map_err(|why| format!("at the end: {why}"))
+        self.look(&world, &DELIVER, &mut random).map_err(|why| format!("at the end: {why}"))?;
+        Ok(())
     }
 
-    /// Each damage on a copy of a world.
-    fn damage(&mut self, world: &World, record: &[u8], random: &mut Random) -> Result<(), String> {
+    /// Each damage on a copy of a world, and the step of the world itself.
+    fn look(&mut self, world: &World, record: &[u8], random: &mut Random) -> Result<Taken, String> {
         for (damage, times) in UNSOUND.iter().zip(&mut self.unsound) {
             *times += u64::from(unsound(world, damage, record)?);
         }
@@ -82,7 +84,7 @@ impl Tally {
             self.scratches += 1;
             self.scratches_unsound += u64::from(taken.number == BAD_WORLD);
         }
-        Ok(())
+        same_step(world, record)
     }
 
     /// The counts, one line each.
@@ -134,7 +136,7 @@ fn changed(world: &World, change: impl Fn(&mut World) -> Option<()>) -> Option<W
     change(&mut damaged).map(|()| damaged)
 }
 
-/// One step of a world that may be unsound, here and there: the same answer, and the same world after.
+/// One step of a world that may be unsound, here and there: the same answer, the same world after, quiet or not.
 fn same_step(world: &World, record: &[u8]) -> Result<Taken, String> {
     let taken = step(world, record);
     let Some(mut other) = to_second(world) else {
@@ -144,6 +146,9 @@ fn same_step(world: &World, record: &[u8]) -> Result<Taken, String> {
     let number = schedule::step(&mut other, record).map_or_else(Refusal::number, |answer| answer.number());
     ensure(taken.number == number, &format!("the step answers {}, there {number}", taken.number))?;
     ensure(to_second(&taken.world).is_some_and(|world| world == other), "the world after the step differs")?;
+    if number != BAD_WORLD {
+        ensure(crate::quiet(&taken.world) == quiet::is_quiet(&other), "only one of the two says quiet")?;
+    }
     Ok(taken)
 }
 

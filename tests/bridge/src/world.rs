@@ -1,5 +1,5 @@
-//! The layout of a world, as it passes by value: the structs of `crates/world/src`, field by field and in their order, laid out as C does
-//! (`repr(C)` on both sides). `staubharfe.h` says the same for C.
+//! The layout of a world, as it passes by value: the structs of `crates/world/src`, field by field and in their order,
+//! laid out as C does (`repr(C)` on both sides). `staubharfe.h` says the same for C.
 
 /// The sizes of document 01.
 pub const SERVERS: usize = 8;
@@ -130,7 +130,8 @@ pub struct Taken {
     pub world: World,
 }
 
-/// How a run ended: 0 and the count of records behind the start, or a refusal's number and offset; and the world at its end.
+/// How a run ended: 0 and the count of records behind the start, or a refusal's number and offset; and the world at
+/// its end, a world of zeros where it is refused.
 #[repr(C)]
 #[derive(Clone, Copy, PartialEq, Eq, Debug)]
 pub struct Run {

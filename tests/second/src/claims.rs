@@ -106,6 +106,7 @@ mod tests {
     use crate::generate;
     use crate::schedule;
     use crate::steps::{self, Mistake};
+    use crate::world::{List, Zeros};
 
     /// The first claim that a run with a mistake breaks.
     fn breaks(schedule: &[u8], mistake: Mistake) -> Option<Claim> {
@@ -119,6 +120,41 @@ mod tests {
             }
         }
         None
+    }
+
+    /// The claim that a changed end of case A breaks, to a history that has seen so much of the true one.
+    fn broken(seen: &[World], change: impl Fn(&mut World)) -> Option<Claim> {
+        let mut history = History::default();
+        seen.iter().for_each(|world| assert_eq!(history.observe(world), Ok(())));
+        let mut world = end_of_case_a();
+        change(&mut world);
+        history.observe(&world).err()
+    }
+
+    /// Case A's world: every server has delivered 0.1.0, and nothing is under way.
+    fn end_of_case_a() -> World {
+        let mut answers = [0; 15];
+        schedule::run(include_bytes!("../../../examples/case_a.bin"), &mut answers).unwrap().world
+    }
+
+    #[test]
+    fn each_claim_is_told() {
+        let end = [end_of_case_a()];
+        assert_eq!(broken(&end, |_| ()), None);
+        assert_eq!(broken(&[], |w| w.numbered = 2), Some(Claim::OneListOfSendings));
+        assert_eq!(broken(&[], |w| w.servers[0].executions.places[0].digest[0] ^= 1), Some(Claim::OneListOfSendings));
+        assert_eq!(broken(&end, |w| w.servers[0].executions.places[0].id = 2), Some(Claim::ListOnlyGrows));
+        assert_eq!(broken(&end, |w| *w = World::fresh(3, 0)), Some(Claim::ListOnlyGrows));
+        let twice = |w: &mut World| {
+            let execution = w.servers[0].executions.places[0];
+            w.servers[0].executions.append(Execution { number: 2, ..execution });
+            w.numbered = 2;
+        };
+        assert_eq!(broken(&end, twice), Some(Claim::NoSendingTwice));
+        let forget = |w: &mut World| w.servers.iter_mut().for_each(|server| server.delivered = List::ZEROS);
+        assert_eq!(broken(&[], forget), Some(Claim::HeldWithGoodSeal));
+        assert_eq!(broken(&end, |w| w.servers[1].delivered.places[0].slot = 1), Some(Claim::DeliveredIsBeginning));
+        assert_eq!(broken(&end, |w| w.servers[2].delivered = List::ZEROS), Some(Claim::QuietHasDeliveredAll));
     }
 
     #[test]

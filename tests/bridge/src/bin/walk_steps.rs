@@ -1,4 +1,5 @@
-//! Walks generated schedules by single steps in place of runs, and damages the worlds on the way; compares with the second implementation.
+//! Walks generated schedules by single steps in place of runs, and damages the worlds on the way; compares with the
+//! second implementation.
 
 use std::process;
 
