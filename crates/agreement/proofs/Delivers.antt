@@ -28,7 +28,7 @@ use Rattle.agreement.proofs.Keeping.{belongs-at}
 use Rattle.agreement.proofs.Entries.{entry-freed}
 use Rattle.agreement.proofs.Items.{item-keeps, itemOf}
 use Rattle.agreement.proofs.Moves.{Moves}
-use Rattle.agreement.proofs.Moving.{at, one, named, seated, few, keys, calm, stays}
+use Rattle.agreement.proofs.Moving.{at, one, named, seated, few, keys, calm, stays, in-holds}
 
 module _ (w : World) (f : FactsOf w) (v : InvOf w) where
   delivered-at : (p x y : ℕ) → Correct (w .roster) p → (g : Found) → g ≡ readyPlace (holdAt (w .holds) p) (nextOf (doneAt (w .delivered) p))
@@ -51,7 +51,7 @@ module _ (w : World) (f : FactsOf w) (v : InvOf w) where
       let now = item-keeps v (one w f) (w .numbered) (keys w f) p ok all (f .items p s .size) (omega arith) z third next in
       calm w f (at p p x y) _ _ _
       (rw (set-getD (w .outgoing) p noPackets)
-      (entry-freed now (one w f) p (rw (f .all-entries) s) z (f .entries p s .size) l
+      (entry-freed now (one w f) p (in-holds w f p ok) z (f .entries p s .size) l
       (λ u k sl m g o.
       let b = rw (o .sender) at (v .third p z ok (omega arith)) in
       let c = belongs-at (keys w f) k b m (o .id) .0 in

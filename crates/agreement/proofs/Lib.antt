@@ -7,6 +7,7 @@ pub mod Packets
 pub mod Orders
 pub mod Items
 pub mod Moving
+pub mod Posts
 pub mod Delivers
 pub mod Arrives
 pub mod Forges

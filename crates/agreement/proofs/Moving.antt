@@ -4,7 +4,7 @@ use mathlib.Core.Logic.{inl, inr}
 use mathlib.Core.Bool.{true, false, not}
 use Prim.Native.Nat.{ℕ, _<_, _≤_}
 use native.Mathlib.Omega.{arith}
-use lib.ListN.{getD, set}
+use lib.ListN.{length, getD, set}
 use lib.Seq.{set-getD}
 use borrow.Author.Tests.{ltb-true}
 use Rattle.world.specs.declared.World.{World}
@@ -43,6 +43,9 @@ module _ (w : World) (f : FactsOf w) where
 
   pub seated : (p : ℕ) → Correct (w .roster) p → p < servers
   seated p ok = named p (and2 (member (w .roster) p) (not (faulty (w .roster) p)) ok .0)
+
+  pub in-holds : (p : ℕ) → Correct (w .roster) p → p < length (w .holds)
+  in-holds p ok = rw (f .all-entries) (seated p ok)
 
   pub good : (p : ℕ) → Correct (w .roster) p → faulty (w .roster) p ≡ false
   good p ok = not-out (faulty (w .roster) p) (and2 (member (w .roster) p) (not (faulty (w .roster) p)) ok .1)

@@ -5,10 +5,10 @@ use mathlib.Core.Bool.{true, not}
 use mathlib.Core.List.{List}
 use Prim.Native.Nat.{ℕ, _+_, _<_, _≤_}
 use native.Mathlib.Omega.{arith}
-use lib.Dec.{eqb, ltb, leb}
-use lib.ListN.{length, getD, set}
+use lib.Dec.{ltb, leb}
+use lib.ListN.{getD, set}
 use lib.Seq.{getD-set-same}
-use borrow.Author.Tests.{ne-eqb, ltb-true, leb-true}
+use borrow.Author.Tests.{ltb-true, leb-true}
 use Rattle.search.specs.Search.{isFound}
 use Rattle.world.specs.declared.World.{World}
 use Rattle.world.specs.declared.execution.Execution.{Execution}
@@ -16,28 +16,27 @@ use Rattle.world.specs.declared.outgoing.Outgoing.{Outgoing}
 use Rattle.world.specs.declared.outgoing.Sending.{Sending}
 use Rattle.world.specs.declared.hold.Entry.{Entry}
 use Rattle.world.specs.declared.hold.Hold.{Hold}
-use Rattle.world.specs.Sizes.{executionsMost, outgoingPlaces}
+use Rattle.world.specs.Sizes.{executionsMost}
 use Rattle.world.specs.Masks.{nobody, has}
 use Rattle.world.specs.Roster.{member, faulty}
 use Rattle.world.specs.Requests.{requestAt}
 use Rattle.world.specs.Executions.{opened}
-use Rattle.world.specs.Outgoing.{freePlaces, needed, sent}
+use Rattle.world.specs.Outgoing.{freePlaces, needed}
 use Rattle.world.specs.Hold.{entryOf, vacancy, kept}
 use Rattle.soundness.proofs.Seats.{seat-own}
 use Rattle.rules.specs.declared.boxes.Stepped.{Stepped}
 use Rattle.rules.specs.Rules.{made, multicastDone, roomy, multicastOf}
 use Rattle.rehearsal.specs.Steps.{touch, boxesOf, putBack}
-use Rattle.kept.proofs.Every.{either, musts, same?, and2, and-both, not-in}
+use Rattle.kept.proofs.Every.{either, musts, same?, and2, and-both}
 use Rattle.kept.proofs.Bits.{nobody-has}
 use Rattle.kept.proofs.Requesting.{same-digest}
 use Rattle.kept.proofs.Facts.{noPackets, noEntries, FactsOf}
-use Rattle.agreement.proofs.Invariant.{Correct, holdAt, doneAt, tableAt, Matches, Holds, Under, Called, Spread, Inv, InvOf}
-use Rattle.agreement.proofs.Keeping.{packets-keep}
-use Rattle.agreement.proofs.Packets.{sent-ways, sent-goes, under-still, under-now}
+use Rattle.agreement.proofs.Invariant.{Correct, holdAt, doneAt, tableAt, Matches, Holds, Called, Spread, Inv, InvOf}
 use Rattle.agreement.proofs.Entries.{kept-holds, entry-kept}
 use Rattle.agreement.proofs.Orders.{orders, orders-more, opening, send-keeps}
+use Rattle.agreement.proofs.Posts.{posts, posts-keep, posts-under}
 use Rattle.agreement.proofs.Moves.{Moves}
-use Rattle.agreement.proofs.Moving.{at, one, named, seated, few, stays, ordered}
+use Rattle.agreement.proofs.Moving.{at, one, named, seated, few, stays, ordered, in-holds}
 use Rattle.agreement.proofs.Uses.{slot-own}
 
 module _ (w : World) (f : FactsOf w) (v : InvOf w) where
@@ -53,31 +52,17 @@ module _ (w : World) (f : FactsOf w) (v : InvOf w) where
     abbrev entry : Entry
     entry = entryOf 2 p id slot 0
 
-    abbrev outbox : Outgoing
-    outbox = getD (w .outgoing) p noPackets
-
     abbrev holds : List Hold
     holds = set (w .holds) p (kept (holdAt (w .holds) p) entry)
 
-    abbrev posts : List Outgoing
-    posts = set (w .outgoing) p (sent (w .roster) nobody p sending outbox)
+    abbrev mail : List Outgoing
+    mail = posts w f p ok nobody sending
 
     abbrev x : Execution
     x = opening (w .roster) p id (requestAt (w .requests) slot .digest) (w .numbered)
 
-    full : p < length (w .holds)
-    full = rw (f .all-entries) (seated w f p ok)
-
-    all : p < length (w .outgoing)
-    all = rw (f .all-packets) (seated w f p ok)
-
-    size : length (outbox .places) ≡ outgoingPlaces
-    size = f .packets p (seated w f p ok) .size
-
-    sends : Inv (w .roster) (w .requests) (w .executions) posts holds (w .delivered)
-    sends =
-        packets-keep (entry-kept v (one w f) p full (f .entries p (seated w f p ok) .size) entry (omega arith) vacant) (one w f) posts
-        (λ o s i sl _. under-still (w .outgoing) p _ all o s i sl (λ d. inl (sent-ways (w .roster) nobody p sending outbox size o s i sl d)))
+    sends : Inv (w .roster) (w .requests) (w .executions) mail holds (w .delivered)
+    sends = posts-keep w f p ok nobody sending (entry-kept v (one w f) p (in-holds w f p ok) (f .entries p (seated w f p ok) .size) entry (omega arith) vacant)
 
     x-id : x .id ≡ id
     x-id = orders (w .roster) (opened p id (requestAt (w .requests) slot .digest)) (w .numbered) .id
@@ -91,24 +76,17 @@ module _ (w : World) (f : FactsOf w) (v : InvOf w) where
 
     own : (stage : ℕ) → stage ≤ 2 → Holds (holdAt holds p) stage p (x .id) slot
     own stage l =
-        rw (getD-set-same (w .holds) p (kept (holdAt (w .holds) p) entry) noEntries full, x-id)
+        rw (getD-set-same (w .holds) p (kept (holdAt (w .holds) p) entry) noEntries (in-holds w f p ok), x-id)
         (kept-holds (holdAt (w .holds) p) entry (f .entries p (seated w f p ok) .size) vacant stage p id slot (record { up = l; sender = refl; id = refl; slot = refl }))
-
-    other : (o : ℕ) → Correct (w .roster) o → o ≢ p → Under posts o p (x .id) slot
-    other o good d =
-        let a = and2 (member (w .roster) o) (not (faulty (w .roster) o)) good in
-        rw x-id
-        (under-now (w .outgoing) p (sent (w .roster) nobody p sending outbox) all o p id slot
-        (sent-goes (w .roster) nobody p sending outbox size room o (seated w f o good)
-        (and-both (and-both (a .0) (not-in (has nobody o) (nobody-has o))) (not-in (eqb o p) (ne-eqb o p d)))))
 
     answers : Called (w .requests) x p (holdAt holds p) (doneAt (w .delivered) p) p
     answers = record { slot = slot; matches = matches; seal = seal; kept = inl (own 2 (omega arith)) }
 
-    spreads : (sl : ℕ) → Matches (w .requests) sl x → Spread (w .roster) posts holds (w .delivered) p x sl
+    spreads : (sl : ℕ) → Matches (w .requests) sl x → Spread (w .roster) mail holds (w .delivered) p x sl
     spreads sl g o good =
         let e = one w f slot sl x matches g in
-        either (same? o p) (λ (z : o ≡ p). inr (inl (rw (z, ← e) (own 1 (omega arith))))) (λ (z : o ≢ p). inl (rw (← e) (other o good z)))
+        either (same? o p) (λ (z : o ≡ p). inr (inl (rw (z, ← e) (own 1 (omega arith)))))
+        (λ (z : o ≢ p). inl (rw (← e, x-id) (posts-under w f p ok nobody sending room o good z (nobody-has o))))
 
     multicasts : Moves w (putBack w (at p p p slot) (multicastDone (w .roster) p slot (boxesOf w (at p p p slot))))
     unfolding multicastDone made

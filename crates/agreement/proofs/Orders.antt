@@ -90,7 +90,7 @@ module _ {r : Roster} {q : Requests} {ts : List Executions} {os : List Outgoing}
       (λ (e : s ≡ x). rw e here)
       (λ (e : s ≢ x). else s e)
 
-  module _ (m : ℕ) (counted : k < c) (least : tableAt ts x .count ≤ c) (most : (j : ℕ) → j < c → j ≢ k → j < tableAt ts x .count)
+  module _ (counted : k < c) (least : tableAt ts x .count ≤ c) (most : (j : ℕ) → j < c → j ≢ k → j < tableAt ts x .count)
       (old : k < tableAt ts x .count → Grown (made ts x k) y)
       (calls : (p : ℕ) → Correct r p → has (y .called) p ≡ true
       → ((k < tableAt ts x .count) × (has (made ts x k .called) p ≡ true)) ⊎ Called q y x (holdAt hs p) (doneAt ds p) p)
@@ -168,7 +168,7 @@ module _ {r : Roster} {q : Requests} {ts : List Executions} {os : List Outgoing}
 
       pub call-keeps : Grew r q ts (set ts x (changed (tableAt ts x) k (tableAt ts x .count) (calling r (made ts x k) caller m))) os hs ds
       call-keeps =
-          made-keeps v one x seated all size k inside (tableAt ts x .count) (calling r (made ts x k) caller m) m used (omega arith) (λ j l _. l) (λ _. recorded-grown) new-call
+          made-keeps v one x seated all size k inside (tableAt ts x .count) (calling r (made ts x k) caller m) used (omega arith) (λ j l _. l) (λ _. recorded-grown) new-call
           (λ sl _ w. inl (used, recorded-cause sl w))
 
   -- an execution made: only its sender has called
@@ -191,5 +191,5 @@ module _ {r : Roster} {q : Requests} {ts : List Executions} {os : List Outgoing}
 
       pub send-keeps : Grew r q ts (set ts x (changed (tableAt ts x) (tableAt ts x .count) (tableAt ts x .count + 1) (opening r x id digest m))) os hs ds
       send-keeps =
-          made-keeps v one x seated all size (tableAt ts x .count) room (tableAt ts x .count + 1) (opening r x id digest m) m (omega arith) (omega arith) (λ j l d. omega arith)
+          made-keeps v one x seated all size (tableAt ts x .count) room (tableAt ts x .count + 1) (opening r x id digest m) (omega arith) (omega arith) (λ j l d. omega arith)
           (λ l. absurd (omega arith)) first-call (λ sl g w. inr (spreads sl g w))

@@ -4,7 +4,7 @@ use mathlib.Core.Logic.{inl, inr}
 use mathlib.Core.Bool.{true, false, not}
 use Prim.Native.Nat.{ℕ, _<_}
 use native.Mathlib.Omega.{arith}
-use lib.ListN.{length, set}
+use lib.ListN.{set}
 use lib.Seq.{set-getD, getD-set-same}
 use Rattle.search.specs.declared.Found.{Found}
 use Rattle.search.specs.declared.Found.the-variants.{At, Nothing}
@@ -25,7 +25,7 @@ use Rattle.agreement.proofs.Invariant.{Correct, holdAt, doneAt, tableAt
 use Rattle.agreement.proofs.Entries.{entry-second, put-holds}
 use Rattle.agreement.proofs.Orders.{orders, orders-more, calling, call-keeps}
 use Rattle.agreement.proofs.Moves.{Moves}
-use Rattle.agreement.proofs.Moving.{at, one, seated, few, calm-entry, stays, ordered}
+use Rattle.agreement.proofs.Moving.{at, one, seated, few, calm-entry, stays, ordered, in-holds}
 use Rattle.agreement.proofs.Uses.{Uses, uses, its-made, its-id, dropped, entry-moves}
 
 module _ (w : World) (f : FactsOf w) (v : InvOf w) where
@@ -39,12 +39,9 @@ module _ (w : World) (f : FactsOf w) (v : InvOf w) where
     u : Uses w f v p ok place
     u = uses w f v p ok place 1 (λ z. omega arith) first
 
-    full : p < length (w .holds)
-    full = rw (f .all-entries) (seated w f p ok)
-
     raises : Inv (w .roster) (w .requests) (w .executions) (w .outgoing) (set (w .holds) p (put (holdAt (w .holds) p) place second)) (w .delivered)
     raises =
-        entry-second v (one w f) p full place (f .entries p (seated w f p ok) .size) (u .within) second (omega arith) first (omega arith) refl refl refl
+        entry-second v (one w f) p (in-holds w f p ok) place (f .entries p (seated w f p ok) .size) (u .within) second (omega arith) first (omega arith) refl refl refl
 
     module _ (k : ℕ) (q : executionOf (tableAt (w .executions) (e .sender)) (e .id) ≡ At k) where
       -- the call is answered for: its server holds the entry
@@ -58,7 +55,7 @@ module _ (w : World) (f : FactsOf w) (v : InvOf w) where
             matches = record { stored = u .slot; same = rw (o .digest) same };
             seal = seal;
             kept = inl
-                (rw (getD-set-same (w .holds) p (put (holdAt (w .holds) p) place second) noEntries full)
+                (rw (getD-set-same (w .holds) p (put (holdAt (w .holds) p) place second) noEntries (in-holds w f p ok))
                 (put-holds (holdAt (w .holds) p) place second (f .entries p (seated w f p ok) .size) (u .within) 2 (e .sender) _ (e .slot)
                 (record { up = omega arith; sender = refl; id = sym (o .id ∙ its-id w f v p ok place u k q); slot = refl })));
           }

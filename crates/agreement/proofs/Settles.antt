@@ -3,12 +3,12 @@ use mathlib.Core.Path.{_≡_, refl, sym}
 use mathlib.Core.Logic.{inl, inr, _≢_}
 use mathlib.Core.Bool.{true, false, not}
 use mathlib.Core.List.{List}
-use Prim.Native.Nat.{ℕ, _<_, _≤_}
+use Prim.Native.Nat.{ℕ, _≤_}
 use native.Mathlib.Omega.{arith}
 use lib.Dec.{eqb, leb}
-use lib.ListN.{length, getD, set}
+use lib.ListN.{getD, set}
 use lib.Seq.{set-getD}
-use borrow.Author.Tests.{eqb-true, eqb-false, ne-eqb, leb-true}
+use borrow.Author.Tests.{eqb-true, eqb-false, leb-true}
 use Rattle.search.specs.declared.Found.{Found}
 use Rattle.search.specs.declared.Found.the-variants.{At, Nothing}
 use Rattle.world.specs.declared.World.{World}
@@ -16,25 +16,23 @@ use Rattle.world.specs.declared.execution.Execution.{Execution}
 use Rattle.world.specs.declared.outgoing.Outgoing.{Outgoing}
 use Rattle.world.specs.declared.outgoing.Sending.{Sending}
 use Rattle.world.specs.declared.hold.Entry.{Entry}
-use Rattle.world.specs.Sizes.{outgoingPlaces}
 use Rattle.world.specs.Masks.{has}
-use Rattle.world.specs.Roster.{member, faulty}
 use Rattle.world.specs.Requests.{requestAt, sameDigest}
 use Rattle.world.specs.Executions.{executionOf}
-use Rattle.world.specs.Outgoing.{freePlaces, needed, sent}
+use Rattle.world.specs.Outgoing.{freePlaces, needed}
 use Rattle.world.specs.Hold.{entryOf, entryAt, put}
 use Rattle.world.specs.Boxes.{holdOf}
 use Rattle.rules.specs.declared.boxes.Stepped.{Stepped}
 use Rattle.rules.specs.Rules.{settleTo, settleFound, settleOf}
 use Rattle.rehearsal.specs.Steps.{touch, boxesOf, putBack}
-use Rattle.kept.proofs.Every.{either, test, musts, must-cases, same?, and2, and-both, not-in, not-out, not-no}
+use Rattle.kept.proofs.Every.{either, test, musts, must-cases, same?, not-out, not-no}
 use Rattle.kept.proofs.Facts.{noPackets, noItems, FactsOf}
-use Rattle.agreement.proofs.Invariant.{Correct, holdAt, doneAt, tableAt, made, Matches, Under, Belongs, Served, Spread, sender, Inv, InvOf}
-use Rattle.agreement.proofs.Keeping.{holds-less, packets-keep}
-use Rattle.agreement.proofs.Packets.{sent-ways, sent-goes, under-still, under-now}
+use Rattle.agreement.proofs.Invariant.{Correct, holdAt, doneAt, tableAt, made, Matches, Belongs, Served, Spread, sender, Inv, InvOf}
+use Rattle.agreement.proofs.Keeping.{holds-less}
 use Rattle.agreement.proofs.Entries.{entry-third}
+use Rattle.agreement.proofs.Posts.{posts, posts-keep, posts-under}
 use Rattle.agreement.proofs.Moves.{Moves}
-use Rattle.agreement.proofs.Moving.{at, one, seated, keys, calm, calm-entry, stays}
+use Rattle.agreement.proofs.Moving.{at, one, seated, keys, calm, calm-entry, stays, in-holds}
 use Rattle.agreement.proofs.Uses.{Uses, uses, its-made, its-id, its-only, dropped, entry-moves}
 
 module _ (w : World) (f : FactsOf w) (v : InvOf w) where
@@ -66,7 +64,7 @@ module _ (w : World) (f : FactsOf w) (v : InvOf w) where
             → Inv (w .roster) (w .requests) (w .executions) os (set (w .holds) p (put (holdAt (w .holds) p) place (entryOf 3 (e .sender) (e .id) (e .slot) (x .number)))) (w .delivered)
         raises {os} n spread =
             let s = seated w f p ok in
-            entry-third n (one w f) p (rw (f .all-entries) s) place (f .entries p s .size) (u .within) (x .number) belongs
+            entry-third n (one w f) p (in-holds w f p ok) place (f .entries p s .size) (u .within) (x .number) belongs
             (λ s j sl m g o.
             rw (its-only w f v p ok place u k q {stage = 0} m (record { up = omega arith; sender = o .sender; id = o .id; slot = o .slot }), ← o .sender, ← o .slot) spread)
 
@@ -74,49 +72,24 @@ module _ (w : World) (f : FactsOf w) (v : InvOf w) where
         own-spread : e .sender ≡ p → Spread (w .roster) (w .outgoing) (w .holds) (w .delivered) (e .sender) x (e .slot)
         own-spread y = v .spread (e .sender) k (e .slot) (its-made w f v p ok place u k q) matches (sender (rw y ok))
 
-        abbrev outbox : Outgoing
-        outbox = getD (w .outgoing) p noPackets
-
-        abbrev posts : List Outgoing
-        posts = set (w .outgoing) p (sent (w .roster) (x .mask) p sending outbox)
-
-        all : p < length (w .outgoing)
-        all = rw (f .all-packets) (seated w f p ok)
-
-        size : length (outbox .places) ≡ outgoingPlaces
-        size = f .packets p (seated w f p ok) .size
-
-        sends : Inv (w .roster) (w .requests) (w .executions) posts (w .holds) (w .delivered)
-        sends =
-            packets-keep v (one w f) posts
-            (λ o s i sl _.
-            under-still (w .outgoing) p _ all o s i sl (λ d. inl (sent-ways (w .roster) (x .mask) p sending outbox size o s i sl d)))
+        abbrev mail : List Outgoing
+        mail = posts w f p ok (x .mask) sending
 
         -- a server of the final mask has called, so it holds the sending or has delivered it
-        member-served : (o : ℕ) → Correct (w .roster) o → has (x .mask) o ≡ true → Served posts (holdAt (w .holds) o) x (doneAt (w .delivered) o) (e .sender) (e .slot) o
+        member-served : (o : ℕ) → Correct (w .roster) o → has (x .mask) o ≡ true → Served mail (holdAt (w .holds) o) x (doneAt (w .delivered) o) (e .sender) (e .slot) o
         member-served o good y =
             let m = its-made w f v p ok place u k q in
             let c = v .calls (e .sender) k o m good (keys w f .within (e .sender) k o (seated w f o good) m y) in
             let z = one w f (c .slot) (e .slot) x (c .matches) matches in
             inr (either (c .kept) (λ h. inl (rw z at (holds-less {b = 1} (omega arith) h))) (λ d. inr d))
 
-        -- another gets a packet
-        other-served : needed (w .roster) (x .mask) p ≤ freePlaces outbox → (o : ℕ) → Correct (w .roster) o → o ≢ p → has (x .mask) o ≡ false
-            → Under posts o (e .sender) (x .id) (e .slot)
-        other-served room o good d n =
-            let a = and2 (member (w .roster) o) (not (faulty (w .roster) o)) good in
-            rw (its-id w f v p ok place u k q)
-            (under-now (w .outgoing) p (sent (w .roster) (x .mask) p sending outbox) all o (e .sender) (e .id) (e .slot)
-            (sent-goes (w .roster) (x .mask) p sending outbox size room o (seated w f o good)
-            (and-both (and-both (a .0) (not-in (has (x .mask) o) n)) (not-in (eqb o p) (ne-eqb o p d)))))
-
-        sent-spread : needed (w .roster) (x .mask) p ≤ freePlaces outbox → Spread (w .roster) posts (w .holds) (w .delivered) (e .sender) x (e .slot)
+        sent-spread : needed (w .roster) (x .mask) p ≤ freePlaces (getD (w .outgoing) p noPackets) → Spread (w .roster) mail (w .holds) (w .delivered) (e .sender) x (e .slot)
         sent-spread room o good =
             either (same? o p)
             (λ (z : o ≡ p).
             inr (inl (rw z (record { place = place; is = record { up = omega arith; sender = refl; id = sym (its-id w f v p ok place u k q); slot = refl } }))))
             (λ (z : o ≢ p).
-            test (has (x .mask) o) (λ y. member-served o good y) (λ n. inl (other-served room o good z n)))
+            test (has (x .mask) o) (λ y. member-served o good y) (λ n. inl (rw (its-id w f v p ok place u k q) (posts-under w f p ok (x .mask) sending room o good z n))))
 
     settles : (g : Found) → g ≡ executionOf (tableAt (w .executions) (e .sender)) (e .id)
         → (let t = at p p (e .sender) (e .slot) in Moves w (putBack w t (settleFound (w .roster) p place (boxesOf w t) g .boxes)))
@@ -137,7 +110,7 @@ module _ (w : World) (f : FactsOf w) (v : InvOf w) where
         musts P (leb (needed (w .roster) (y .mask) p) (freePlaces (getD (w .outgoing) p noPackets))) _ _ nothing λ room.
         calm w f t _ _ _
         (rw (set-getD (w .delivered) p noItems)
-        (raises k r some same (sends k r some same)
+        (raises k r some same (posts-keep w f p ok (y .mask) sending v)
         (sent-spread k r some same (leb-true (needed (w .roster) (y .mask) p) (freePlaces (getD (w .outgoing) p noPackets)) room))))
     settles Nothing q = stays w f (at p p (e .sender) (e .slot)) v
 

@@ -31,7 +31,7 @@ use Rattle.agreement.proofs.Invariant.{Correct, holdAt, tableAt, made, 
 use Rattle.agreement.proofs.Keeping.{matches-on}
 use Rattle.agreement.proofs.Entries.{entry-freed}
 use Rattle.agreement.proofs.Moves.{Moves}
-use Rattle.agreement.proofs.Moving.{at, one, named, seated, keys, calm-entry, stays}
+use Rattle.agreement.proofs.Moving.{at, one, named, seated, keys, calm-entry, stays, in-holds}
 
 module _ (w : World) (f : FactsOf w) (v : InvOf w) (p : ℕ) (ok : Correct (w .roster) p) (place : ℕ) where
   abbrev pub taken : Entry
@@ -78,7 +78,7 @@ module _ (w : World) (f : FactsOf w) (v : InvOf w) (p : ℕ) (ok : Correct (w .r
     dropped x y why =
         let s = seated w f p ok in
         calm-entry w f (at p p x y) _
-        (entry-freed v (one w f) p (rw (f .all-entries) s) place (f .entries p s .size) (u .within)
+        (entry-freed v (one w f) p (in-holds w f p ok) place (f .entries p s .size) (u .within)
         (λ s j sl m g o.
         let e = its-only m o in
         either why
