@@ -12,8 +12,8 @@ use Rattle.world.specs.declared.delivered.Item.{Item}
 use Rattle.world.specs.Executions.{executionAt, executionOf}
 use Rattle.world.specs.Delivered.{unusedItem}
 use Rattle.world.specs.Boxes.{executionsOf}
-use Rattle.soundness.specs.Quiet.{quiet}
-use Rattle.soundness.proofs.Seats.{seat-own}
+use Rattle.protocol.specs.Quiet.{quiet}
+use Rattle.world.proofs.Seats.{seat-own}
 use Rattle.agreement.specs.Agreement.{sendings, sendingAt, sendingOf, Numbered, deliveredBy, Begins, Agreed}
 use Rattle.agreement.proofs.Invariant.{Correct, doneAt, tableAt, Belongs}
 use Rattle.agreement.proofs.Sendings.{id-finds, sending-of, sendings-length, sendings-at, begins-by}

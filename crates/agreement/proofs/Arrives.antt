@@ -17,12 +17,13 @@ use Rattle.world.specs.Roster.{member, faulty}
 use Rattle.world.specs.Outgoing.{freePacket, packetAt, freePlace, cleared}
 use Rattle.world.specs.Hold.{entryOf, entryAt, isEntry, holding, vacancy, kept}
 use Rattle.world.specs.Boxes.{seat}
-use Rattle.soundness.proofs.Seats.{seat-own}
-use Rattle.soundness.proofs.Seats as seats
-use Rattle.rules.specs.declared.boxes.Stepped.{Stepped}
-use Rattle.rules.specs.Rules.{arriveOf, forgePacketOf}
-use Rattle.rehearsal.specs.Steps.{touch, boxesOf, putBack}
-use Rattle.kept.proofs.Every.{apart, either, musts, must-cases, test, and2, and4, found-at, found-where, and-both, not-out, not-no}
+use Rattle.world.proofs.Seats.{seat-own}
+use Rattle.world.proofs.Seats as seats
+use Rattle.protocol.specs.declared.boxes.Stepped.{Stepped}
+use Rattle.protocol.specs.Rules.{arriveOf, forgePacketOf}
+use Rattle.protocol.specs.Steps.{touch, boxesOf, putBack}
+use Rattle.search.proofs.Booleans.{apart, either, musts, must-cases, test, and2, and4, and-both, not-out, not-no}
+use Rattle.search.proofs.Every.{found-at, found-where}
 use Rattle.kept.proofs.Facts.{noPackets, noEntries, noItems, FactsOf, inside}
 use Rattle.kept.proofs.Places.{packet-out}
 use Rattle.agreement.proofs.Invariant.{Correct, holdAt, Holds, Goes, Inv, InvOf}

@@ -16,11 +16,12 @@ use Rattle.world.specs.Sizes.{holdPlaces}
 use Rattle.world.specs.Roster.{member, faulty}
 use Rattle.world.specs.Hold.{entryAt, readyPlace}
 use Rattle.world.specs.Delivered.{nextOf, appended}
-use Rattle.soundness.proofs.Seats.{seat-own}
-use Rattle.rules.specs.declared.boxes.Stepped.{Stepped}
-use Rattle.rules.specs.Rules.{deliverFound, deliverOf}
-use Rattle.rehearsal.specs.Steps.{touch, boxesOf, putBack}
-use Rattle.kept.proofs.Every.{musts, and2, and-both, found-at}
+use Rattle.world.proofs.Seats.{seat-own}
+use Rattle.protocol.specs.declared.boxes.Stepped.{Stepped}
+use Rattle.protocol.specs.Rules.{deliverFound, deliverOf}
+use Rattle.protocol.specs.Steps.{touch, boxesOf, putBack}
+use Rattle.search.proofs.Booleans.{musts, and2, and-both}
+use Rattle.search.proofs.Every.{found-at}
 use Rattle.kept.proofs.Facts.{noPackets, noItems, FactsOf, entry-out}
 use Rattle.kept.proofs.Delivering.{third-number}
 use Rattle.agreement.proofs.Invariant.{Correct, holdAt, doneAt, InvOf}

@@ -7,13 +7,14 @@ use native.Mathlib.Omega.{arith}
 use lib.Dec.{eqb}
 use lib.ListN.{getD}
 use borrow.Author.Tests.{eq-eqb, eqb-true}
-use Rattle.digest.specs.Digest.{digestBytes}
+use Rattle.fips180.specs.Digest.{digestBytes}
 use Rattle.world.specs.declared.roster.Roster.{Roster}
 use Rattle.world.specs.declared.request.Requests.{Requests}
 use Rattle.world.specs.declared.execution.Execution.{Execution}
 use Rattle.world.specs.Requests.{requestAt, sameDigest}
-use Rattle.soundness.specs.Sound.{newDigest}
-use Rattle.kept.proofs.Every.{apart, either, less?, not-out, every-at, every-all}
+use Rattle.protocol.specs.Sound.{newDigest}
+use Rattle.search.proofs.Booleans.{apart, either, less?, not-out}
+use Rattle.search.proofs.Every.{every-at, every-all}
 use Rattle.kept.proofs.Facts.{Stored}
 use Rattle.agreement.proofs.Invariant.{Matches}
 

@@ -23,7 +23,8 @@ use Rattle.world.specs.declared.delivered.Delivered.{Delivered}
 use Rattle.world.specs.Sizes.{holdPlaces}
 use Rattle.world.specs.Masks.{has}
 use Rattle.world.specs.Hold.{entryOf, freeEntry, entryAt, vacancy, put, freed, keptAt, kept}
-use Rattle.kept.proofs.Every.{either, found-at, found-where, same?}
+use Rattle.search.proofs.Booleans.{either, same?}
+use Rattle.search.proofs.Every.{found-at, found-where}
 use Rattle.kept.proofs.Facts.{noEntries, set-cases}
 use Rattle.agreement.proofs.Invariant.{Correct, holdAt, doneAt, made, Made, Matches, Of, Holds, Done, Belongs, Served, Spread, Inv}
 use Rattle.agreement.proofs.Keeping.{entries-keep}

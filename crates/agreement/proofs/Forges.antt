@@ -17,11 +17,11 @@ use Rattle.world.specs.Roster.{member, faulty}
 use Rattle.world.specs.Requests.{sameDigest}
 use Rattle.world.specs.Executions.{executionAt, executionOf, opened, called}
 use Rattle.world.specs.Boxes.{seat}
-use Rattle.soundness.proofs.Seats.{seat-own}
-use Rattle.rules.specs.declared.boxes.Stepped.{Stepped}
-use Rattle.rules.specs.Rules.{made, recorded, forgeSendOf, forgeReceiveTo, forgeReceiveFound, forgeReceiveOf}
-use Rattle.rehearsal.specs.Steps.{touch, boxesOf, putBack}
-use Rattle.kept.proofs.Every.{apart, musts, and2, not-out}
+use Rattle.world.proofs.Seats.{seat-own}
+use Rattle.protocol.specs.declared.boxes.Stepped.{Stepped}
+use Rattle.protocol.specs.Rules.{made, recorded, forgeSendOf, forgeReceiveTo, forgeReceiveFound, forgeReceiveOf}
+use Rattle.protocol.specs.Steps.{touch, boxesOf, putBack}
+use Rattle.search.proofs.Booleans.{apart, musts, and2, not-out}
 use Rattle.kept.proofs.Facts.{noPackets, noEntries, FactsOf}
 use Rattle.kept.proofs.Ordering.{found-made, not-found}
 use Rattle.agreement.proofs.Invariant.{Correct, tableAt, Cause, sender, settled, delivered, InvOf}

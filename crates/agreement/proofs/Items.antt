@@ -18,7 +18,7 @@ use Rattle.world.specs.Sizes.{deliveredMost}
 use Rattle.world.specs.Hold.{entryAt}
 use Rattle.world.specs.Delivered.{unusedItem, nextOf, appended}
 use Rattle.world.specs.Boxes.{itemAt}
-use Rattle.kept.proofs.Every.{either, less?}
+use Rattle.search.proofs.Booleans.{either, less?}
 use Rattle.kept.proofs.Facts.{noItems, set-cases}
 use Rattle.agreement.proofs.Invariant.{Correct, holdAt, doneAt, made, Made, Matches, Holds, Done, Belongs, Cause, delivered, settled, Inv}
 use Rattle.agreement.proofs.Keeping.{Keys, items-keep}

@@ -15,7 +15,7 @@ use Rattle.world.specs.declared.delivered.Delivered.{Delivered}
 use Rattle.world.specs.Sizes.{servers}
 use Rattle.world.specs.Masks.{has}
 use Rattle.world.specs.Requests.{requestAt}
-use Rattle.kept.proofs.Every.{either}
+use Rattle.search.proofs.Booleans.{either}
 use Rattle.agreement.proofs.Invariant.{Correct, holdAt, doneAt, made, Made, Matches, Holds, Under, Done, Belongs, Called, Spread, Cause, sender, settled, delivered, Third, Prefix, Inv}
 
 -- what is the same of an execution that the orderer changes

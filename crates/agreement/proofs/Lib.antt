@@ -28,5 +28,4 @@ pub mod Starting
 pub mod Agreeing
 pub mod Rows
 pub mod Theorem
-pub mod Returned
 pub mod Sanity

@@ -3,8 +3,8 @@ use mathlib.Core.Path.{_≡_}
 use mathlib.Core.Logic.{_⊎_}
 use Prim.Native.Nat.{ℕ, _≤_}
 use Rattle.world.specs.declared.World.{World}
-use Rattle.schedule.specs.Records.{Asked}
-use Rattle.rehearsal.specs.Steps.{stepOf}
+use Rattle.format.specs.Records.{Asked}
+use Rattle.protocol.specs.Steps.{stepOf}
 use Rattle.kept.proofs.Facts.{FactsOf}
 use Rattle.agreement.proofs.Invariant.{Belongs, InvOf}
 

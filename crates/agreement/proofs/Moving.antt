@@ -14,15 +14,15 @@ use Rattle.world.specs.declared.hold.Hold.{Hold}
 use Rattle.world.specs.declared.delivered.Delivered.{Delivered}
 use Rattle.world.specs.Sizes.{servers}
 use Rattle.world.specs.Roster.{member, faulty}
-use Rattle.rules.specs.declared.boxes.Boxes.{Boxes}
-use Rattle.rules.specs.Rules.{withHold, withOutgoing, withDelivered}
-use Rattle.rehearsal.specs.declared.boxing.Touch.{Touch}
-use Rattle.rehearsal.specs.Steps.{boxesOf, putBack}
-use Rattle.kept.proofs.Every.{and2, not-out}
+use Rattle.protocol.specs.declared.boxes.Boxes.{Boxes}
+use Rattle.protocol.specs.Rules.{withHold, withOutgoing, withDelivered}
+use Rattle.protocol.specs.declared.boxes.Touch.{Touch}
+use Rattle.protocol.specs.Steps.{boxesOf, putBack}
+use Rattle.search.proofs.Booleans.{and2, not-out}
 use Rattle.kept.proofs.Facts.{noTable, noPackets, noEntries, noItems, FactsOf, place-out, order-low}
 use Rattle.kept.proofs.Facts as facts
 use Rattle.kept.proofs.Masking.{masks-out}
-use Rattle.kept.proofs.Stepping.{few-servers}
+use Rattle.world.proofs.Seats.{few-servers}
 use Rattle.agreement.proofs.Invariant.{Correct, doneAt, tableAt, made, Made, Matches, Inv, InvOf}
 use Rattle.agreement.proofs.Digests.{matches-one}
 use Rattle.agreement.proofs.Sendings.{made-one, id-one}

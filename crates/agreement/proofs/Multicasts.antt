@@ -23,12 +23,12 @@ use Rattle.world.specs.Requests.{requestAt}
 use Rattle.world.specs.Executions.{opened}
 use Rattle.world.specs.Outgoing.{freePlaces, needed}
 use Rattle.world.specs.Hold.{entryOf, vacancy, kept}
-use Rattle.soundness.proofs.Seats.{seat-own}
-use Rattle.rules.specs.declared.boxes.Stepped.{Stepped}
-use Rattle.rules.specs.Rules.{made, multicastDone, roomy, multicastOf}
-use Rattle.rehearsal.specs.Steps.{touch, boxesOf, putBack}
-use Rattle.kept.proofs.Every.{either, musts, same?, and2, and-both}
-use Rattle.kept.proofs.Bits.{nobody-has}
+use Rattle.world.proofs.Seats.{seat-own}
+use Rattle.protocol.specs.declared.boxes.Stepped.{Stepped}
+use Rattle.protocol.specs.Rules.{made, multicastDone, roomy, multicastOf}
+use Rattle.protocol.specs.Steps.{touch, boxesOf, putBack}
+use Rattle.search.proofs.Booleans.{either, musts, same?, and2, and-both}
+use Rattle.world.proofs.Bits.{nobody-has}
 use Rattle.kept.proofs.Requesting.{same-digest}
 use Rattle.kept.proofs.Facts.{noPackets, noEntries, FactsOf}
 use Rattle.agreement.proofs.Invariant.{Correct, holdAt, doneAt, tableAt, Matches, Holds, Called, Spread, Inv, InvOf}

@@ -9,7 +9,8 @@ use borrow.Author.Tests.{eq-eqb, eqb-true}
 use Rattle.search.specs.declared.Found.the-variants.{At}
 use Rattle.search.specs.Search.{first, count}
 use Rattle.search.proofs.Laws.{found-in}
-use Rattle.kept.proofs.Every.{either, same?, less?, found-at, found-where, any-in}
+use Rattle.search.proofs.Booleans.{either, same?, less?}
+use Rattle.search.proofs.Every.{found-at, found-where, any-in}
 use Rattle.kept.proofs.Counts.{Numbers, count-some}
 
 -- a search for what stands at one place only

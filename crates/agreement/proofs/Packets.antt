@@ -17,7 +17,8 @@ use Rattle.world.specs.declared.outgoing.Packet.{Packet}
 use Rattle.world.specs.declared.outgoing.Sending.{Sending}
 use Rattle.world.specs.Sizes.{servers, outgoingPlaces}
 use Rattle.world.specs.Outgoing.{freePacket, packetFor, packetAt, isFree, freePlace, freePlaces, putPacket, cleared, postedAt, posted, recipient, needed, sentBelow, sent}
-use Rattle.kept.proofs.Every.{apart, either, same?, found-at, not-out}
+use Rattle.search.proofs.Booleans.{apart, either, same?, not-out}
+use Rattle.search.proofs.Every.{found-at}
 use Rattle.kept.proofs.Counts.{count-some}
 use Rattle.kept.proofs.Facts.{noPackets, set-cases}
 use Rattle.agreement.proofs.Invariant.{Goes, Under}

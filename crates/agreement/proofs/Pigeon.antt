@@ -13,9 +13,9 @@ use Rattle.world.specs.declared.execution.Execution.{Execution}
 use Rattle.world.specs.Sizes.{servers}
 use Rattle.world.specs.Masks.{has}
 use Rattle.world.specs.Roster.{faulty, threshold, faults, strays, goodRoster}
-use Rattle.soundness.specs.Sound.{orderSound}
-use Rattle.kept.proofs.Every.{either, less?, and2, and4, and-both, not-in}
-use Rattle.kept.proofs.Bits.{has-zero, has-suc}
+use Rattle.protocol.specs.Sound.{orderSound}
+use Rattle.search.proofs.Booleans.{either, less?, and2, and4, and-both, not-in}
+use Rattle.world.proofs.Bits.{has-zero, has-suc}
 use Rattle.kept.proofs.Facts.{FactsOf}
 use Rattle.kept.proofs.Masking.{masks-out}
 use Rattle.agreement.proofs.Invariant.{Correct, made, Made}

@@ -15,7 +15,7 @@ use Rattle.world.specs.Sizes.{outgoingPlaces}
 use Rattle.world.specs.Masks.{has}
 use Rattle.world.specs.Roster.{member, faulty}
 use Rattle.world.specs.Outgoing.{freePlaces, needed, sent}
-use Rattle.kept.proofs.Every.{and2, and-both, not-in}
+use Rattle.search.proofs.Booleans.{and2, and-both, not-in}
 use Rattle.kept.proofs.Facts.{noPackets, FactsOf}
 use Rattle.agreement.proofs.Invariant.{Correct, Under, Inv}
 use Rattle.agreement.proofs.Keeping.{packets-keep}

@@ -16,10 +16,10 @@ use Rattle.world.specs.Requests.{requestAt, sameDigest}
 use Rattle.world.specs.Executions.{executionOf, called}
 use Rattle.world.specs.Hold.{entryOf, entryAt, put}
 use Rattle.world.specs.Boxes.{holdOf}
-use Rattle.rules.specs.declared.boxes.Stepped.{Stepped}
-use Rattle.rules.specs.Rules.{raised, recorded, proposeTo, proposeFound, proposeOf}
-use Rattle.rehearsal.specs.Steps.{touch, boxesOf, putBack}
-use Rattle.kept.proofs.Every.{musts, must-cases, not-no}
+use Rattle.protocol.specs.declared.boxes.Stepped.{Stepped}
+use Rattle.protocol.specs.Rules.{raised, recorded, proposeTo, proposeFound, proposeOf}
+use Rattle.protocol.specs.Steps.{touch, boxesOf, putBack}
+use Rattle.search.proofs.Booleans.{musts, must-cases, not-no}
 use Rattle.kept.proofs.Facts.{noPackets, noEntries, FactsOf}
 use Rattle.agreement.proofs.Invariant.{Correct, holdAt, doneAt, tableAt, made, Called, Inv, InvOf}
 use Rattle.agreement.proofs.Entries.{entry-second, put-holds}

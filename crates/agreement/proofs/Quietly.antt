@@ -21,10 +21,11 @@ use Rattle.world.specs.Executions.{executionAt, executionOf}
 use Rattle.world.specs.Outgoing.{packetAt, freePacket}
 use Rattle.world.specs.Hold.{entryAt, freeEntry}
 use Rattle.world.specs.Delivered.{nextOf}
-use Rattle.soundness.specs.Names.{tableOf, ownExecution}
-use Rattle.soundness.specs.Quiet.{outgoingQuiet, isNumbered, stirs, holdQuiet, serverQuiet, quiet}
-use Rattle.soundness.proofs.Seats.{seat-own}
-use Rattle.kept.proofs.Every.{apart, either, less?, and2, and-both, implies-out, not-in, not-out, every-at}
+use Rattle.protocol.specs.Names.{tableOf, ownExecution}
+use Rattle.protocol.specs.Quiet.{outgoingQuiet, isNumbered, stirs, holdQuiet, serverQuiet, quiet}
+use Rattle.world.proofs.Seats.{seat-own}
+use Rattle.search.proofs.Booleans.{apart, either, less?, and2, and-both, implies-out, not-in, not-out}
+use Rattle.search.proofs.Every.{every-at}
 use Rattle.kept.proofs.Facts.{noPackets, inside, entry-out}
 use Rattle.agreement.proofs.Invariant.{Correct, holdAt, doneAt, made, Made, Holds, Under, Belongs, Served, Cause, settled, delivered}
 use Rattle.agreement.proofs.Keeping.{holds-less, belongs-at}

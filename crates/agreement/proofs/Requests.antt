@@ -16,10 +16,11 @@ use Rattle.world.specs.declared.execution.Execution.{Execution}
 use Rattle.world.specs.Sizes.{requestsMost}
 use Rattle.world.specs.Roster.{strays}
 use Rattle.world.specs.Requests.{noRequest, requestAt, sameDigest, knownDigest}
-use Rattle.rules.specs.declared.storing.Requested.{Requested}
-use Rattle.rules.specs.Rules.{requestFrom, requestOf}
-use Rattle.rehearsal.specs.Steps.{withRequests}
-use Rattle.kept.proofs.Every.{apart, either, less?, musts, not-out, any-none}
+use Rattle.protocol.specs.declared.boxes.Requested.{Requested}
+use Rattle.protocol.specs.Rules.{requestFrom, requestOf}
+use Rattle.protocol.specs.Steps.{withRequests}
+use Rattle.search.proofs.Booleans.{apart, either, less?, musts, not-out}
+use Rattle.search.proofs.Every.{any-none}
 use Rattle.kept.proofs.Facts.{FactsOf}
 use Rattle.agreement.proofs.Invariant.{Matches, InvOf}
 use Rattle.agreement.proofs.Digests.{digest-both}

@@ -13,8 +13,9 @@ use Rattle.world.specs.declared.delivered.Delivered.{Delivered}
 use Rattle.world.specs.declared.delivered.Item.{Item}
 use Rattle.world.specs.Sizes.{holdPlaces}
 use Rattle.world.specs.Hold.{entryAt, freeEntry, isEntry, holding}
-use Rattle.soundness.proofs.Seats.{seat-own}
-use Rattle.kept.proofs.Every.{either, less?, and-both, not-in, any-in}
+use Rattle.world.proofs.Seats.{seat-own}
+use Rattle.search.proofs.Booleans.{either, less?, and-both, not-in}
+use Rattle.search.proofs.Every.{any-in}
 use Rattle.kept.proofs.Facts.{inside}
 use Rattle.agreement.specs.Agreement.{sendings, sendingOf, Begins, through, Vouched, InTime, Demand}
 use Rattle.agreement.proofs.Invariant.{Correct, holdAt, doneAt, made, Of, Holds, Done, Belongs}

@@ -19,10 +19,10 @@ use Rattle.world.specs.Sizes.{servers, requestsMost, executionsMost}
 use Rattle.world.specs.Requests.{requestAt, sameDigest}
 use Rattle.world.specs.Executions.{executionAt, executionOf}
 use Rattle.world.specs.Delivered.{unusedItem}
-use Rattle.soundness.specs.Names.{tableOf}
-use Rattle.soundness.specs.Sound.{numberAt}
-use Rattle.soundness.proofs.Seats.{seat-own}
-use Rattle.kept.proofs.Every.{either, same?, less?, and2, and-both}
+use Rattle.protocol.specs.Names.{tableOf}
+use Rattle.protocol.specs.Sound.{numberAt}
+use Rattle.world.proofs.Seats.{seat-own}
+use Rattle.search.proofs.Booleans.{either, same?, less?, and2, and-both}
 use Rattle.kept.proofs.Facts.{FactsOf, place-unused}
 use Rattle.kept.proofs.Ordering.{ids-differ}
 use Rattle.agreement.specs.Agreement.{placeOf, numberedAt, slotOf, sendingOf, sendingsTo, Begins}

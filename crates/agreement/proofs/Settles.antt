@@ -22,10 +22,10 @@ use Rattle.world.specs.Executions.{executionOf}
 use Rattle.world.specs.Outgoing.{freePlaces, needed}
 use Rattle.world.specs.Hold.{entryOf, entryAt, put}
 use Rattle.world.specs.Boxes.{holdOf}
-use Rattle.rules.specs.declared.boxes.Stepped.{Stepped}
-use Rattle.rules.specs.Rules.{settleTo, settleFound, settleOf}
-use Rattle.rehearsal.specs.Steps.{touch, boxesOf, putBack}
-use Rattle.kept.proofs.Every.{either, test, musts, must-cases, same?, not-out, not-no}
+use Rattle.protocol.specs.declared.boxes.Stepped.{Stepped}
+use Rattle.protocol.specs.Rules.{settleTo, settleFound, settleOf}
+use Rattle.protocol.specs.Steps.{touch, boxesOf, putBack}
+use Rattle.search.proofs.Booleans.{either, test, musts, must-cases, same?, not-out, not-no}
 use Rattle.kept.proofs.Facts.{noPackets, noItems, FactsOf}
 use Rattle.agreement.proofs.Invariant.{Correct, holdAt, doneAt, tableAt, made, Matches, Belongs, Served, Spread, sender, Inv, InvOf}
 use Rattle.agreement.proofs.Keeping.{holds-less}

@@ -1,6 +1,6 @@
 -- Every step keeps the invariant. Assumes nothing.
-use Rattle.schedule.specs.Records.{Request, Multicast, Arrive, Propose, Settle, Deliver, ForgePacket, ForgeSend, ForgeReceive}
-use Rattle.rehearsal.specs.Steps.{stepOf}
+use Rattle.format.specs.Records.{Request, Multicast, Arrive, Propose, Settle, Deliver, ForgePacket, ForgeSend, ForgeReceive}
+use Rattle.protocol.specs.Steps.{stepOf}
 use Rattle.agreement.proofs.Moves.{StepMoves}
 use Rattle.agreement.proofs.Requests.{request-moves}
 use Rattle.agreement.proofs.Multicasts.{multicast-moves}

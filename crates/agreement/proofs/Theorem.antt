@@ -4,11 +4,12 @@ use mathlib.Core.List.{List, [], _∷_}
 use Prim.Native.Nat.{ℕ}
 use Rattle.world.specs.declared.World.{World}
 use Rattle.world.specs.Fresh.{freshWorld}
-use Rattle.schedule.specs.Fields.{byteAt}
-use Rattle.schedule.specs.Records.{Asked, asked}
-use Rattle.rehearsal.specs.Steps.{stepOf, worldAfter}
-use Rattle.rehearsal.specs.Runs.{startWorld}
-use Rattle.kept.proofs.Stepping.{step-facts, accepts, ran-keeps, stepped-keeps, started-keeps}
+use Rattle.format.specs.Fields.{byteAt}
+use Rattle.format.specs.Records.{Asked, asked}
+use Rattle.protocol.specs.Steps.{stepOf, worldAfter}
+use Rattle.protocol.specs.Runs.{startWorld}
+use Rattle.format.proofs.Judged.{accepted-means}
+use Rattle.kept.proofs.Stepping.{step-facts, ran-keeps, stepped-keeps, started-keeps}
 use Rattle.agreement.specs.Agreement.{Agreed, through, Demand, byRecord, byBytes, RunAgrees, RanAgrees, RowAgrees}
 use Rattle.agreement.proofs.Stepping.{steps}
 use Rattle.agreement.proofs.Small.{step-small}
@@ -35,7 +36,7 @@ by-bytes w s g = stepped-keeps (Leads w) w s (leads-same g) (λ a. by-record w a
 
 pub run-agrees : RunAgrees
 run-agrees s k e =
-    demand byRecord by-record (startWorld s) (start-good (byteAt s 1) (byteAt s 2) (accepts s k e)) (none-numbered (byteAt s 1) (byteAt s 2)) (asked s)
+    demand byRecord by-record (startWorld s) (start-good (byteAt s 1) (byteAt s 2) (accepted-means s k e .good)) (none-numbered (byteAt s 1) (byteAt s 2)) (asked s)
 
 pub ran-agrees : RanAgrees
 ran-agrees s room k =

@@ -17,14 +17,15 @@ use Rattle.world.specs.Requests.{requestAt, sameDigest}
 use Rattle.world.specs.Executions.{executionAt, executionOf}
 use Rattle.world.specs.Hold.{freeEntry, entryAt, freed}
 use Rattle.world.specs.Boxes.{within, holdOf}
-use Rattle.soundness.proofs.Seats.{seat-own}
-use Rattle.rehearsal.specs.Steps.{touch, boxesOf, putBack}
+use Rattle.world.proofs.Seats.{seat-own}
+use Rattle.protocol.specs.Steps.{touch, boxesOf, putBack}
 use Rattle.search.specs.Tests.{must}
-use Rattle.rules.specs.declared.answer.Answer.the-variants.{BadServer, WrongSide, NoSuch}
-use Rattle.rules.specs.declared.boxes.Boxes.{Boxes}
-use Rattle.rules.specs.declared.boxes.Stepped.{Stepped}
-use Rattle.rules.specs.Rules.{answered, withHold}
-use Rattle.kept.proofs.Every.{apart, either, musts, and2, and-both, found-at}
+use Rattle.protocol.specs.declared.answer.Answer.the-variants.{BadServer, WrongSide, NoSuch}
+use Rattle.protocol.specs.declared.boxes.Boxes.{Boxes}
+use Rattle.protocol.specs.declared.boxes.Stepped.{Stepped}
+use Rattle.protocol.specs.Rules.{answered, withHold}
+use Rattle.search.proofs.Booleans.{apart, either, musts, and2, and-both}
+use Rattle.search.proofs.Every.{found-at}
 use Rattle.kept.proofs.Facts.{FactsOf, inside, entry-out}
 use Rattle.kept.proofs.Ordering.{found-made}
 use Rattle.agreement.proofs.Invariant.{Correct, holdAt, tableAt, made, Made, Matches, Of, InvOf}

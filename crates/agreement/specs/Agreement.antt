@@ -22,13 +22,13 @@ use Rattle.world.specs.Executions.{executionAt, executionOf}
 use Rattle.world.specs.Hold.{holding}
 use Rattle.world.specs.Delivered.{unusedItem}
 use Rattle.world.specs.Boxes.{executionsOf, holdOf, deliveredOf}
-use Rattle.soundness.specs.Sound.{numberAt}
-use Rattle.soundness.specs.Quiet.{quiet}
-use Rattle.schedule.specs.declared.scanning.Verdict.the-variants.{Accepted}
-use Rattle.schedule.specs.Records.{Asked, asked}
-use Rattle.schedule.specs.Judging.{judged}
-use Rattle.rehearsal.specs.Steps.{stepOf}
-use Rattle.rehearsal.specs.Runs.{startOf, stepped, startWorld, ranOf}
+use Rattle.protocol.specs.Sound.{numberAt}
+use Rattle.protocol.specs.Quiet.{quiet}
+use Rattle.format.specs.declared.verdict.Verdict.the-variants.{Accepted}
+use Rattle.format.specs.Records.{Asked, asked}
+use Rattle.format.specs.Judging.{judged}
+use Rattle.protocol.specs.Steps.{stepOf}
+use Rattle.protocol.specs.Runs.{startOf, stepped, startWorld, ranOf}
 
 -- the place that a search found
 abbrev pub placeOf : Found → ℕ

@@ -8,7 +8,7 @@ use Rattle.world.specs.declared.World.{World}
 use Rattle.world.specs.declared.delivered.Item.{Item}
 use Rattle.world.specs.Roster.{correct}
 use Rattle.world.specs.Delivered.{unusedItem}
-use Rattle.soundness.specs.Quiet.{quiet}
+use Rattle.protocol.specs.Quiet.{quiet}
 use Rattle.agreement.specs.Agreement.{deliveredBy, Agreed}
 
 -- the item that a server delivered at a place of its list

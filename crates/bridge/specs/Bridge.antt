@@ -2,10 +2,10 @@
 use Prim.Native.Nat.{ℕ}
 use mathlib.Core.List.{List}
 use Rattle.world.specs.declared.World.{World}
-use Rattle.schedule.specs.declared.scanning.Verdict.{Verdict}
-use Rattle.schedule.specs.declared.scanning.Verdict.the-variants.{Accepted, Refused}
-use Rattle.schedule.specs.Judging.{refusalNumber}
-use Rattle.rehearsal.specs.Runs.{ranOf}
+use Rattle.format.specs.declared.verdict.Verdict.{Verdict}
+use Rattle.format.specs.declared.verdict.Verdict.the-variants.{Accepted, Refused}
+use Rattle.format.specs.Judging.{refusalNumber}
+use Rattle.protocol.specs.Runs.{ranOf}
 use Rattle.bridge.specs.declared.Run.{Run}
 
 -- 0 and the count of records, or a refusal's number and offset

@@ -2,13 +2,13 @@
 // callers' side, in `tests/bridge`.
 ghost use mathlib.Core.Path.{_≡_};
 ghost use lib.ListN.{length};
-ghost use Rattle.digest.specs.Digest.{digestAnswer};
-ghost use Rattle.soundness.specs.Quiet.{quiet};
-ghost use Rattle.rehearsal.specs.Runs.{startOf, stepped, writtenOf};
+ghost use Rattle.fips180.specs.Digest.{digestAnswer};
+ghost use Rattle.protocol.specs.Quiet.{quiet};
+ghost use Rattle.protocol.specs.Runs.{startOf, stepped, writtenOf};
 ghost use Rattle.bridge.specs.Bridge.{runOf};
-use digest::Digest;
-use rehearsal::Taken;
-use schedule::Verdict;
+use fips180::Digest;
+use format::Verdict;
+use protocol::Taken;
 use world::World;
 
 // How a run ended: 0 and the count of records behind the start, or a refusal's number and offset; and the world at its end, a world of zeros
@@ -24,13 +24,13 @@ pub struct Run {
 // The answer's number; the digest goes into `out`, zeros where the message is refused.
 #[no_mangle]
 pub extern "C" fn staubharfe_sha256(message: &[u8], out: &mut [u8; Digest::BYTES]) -> u8
-    ensures { λ r. ⌜ r ≡ digestAnswer (now (message .entry)) .number ⌝ }
+    ensures { λ r. ⌜ r ≡ digestAnswer (now (message .entry)) .code ⌝ }
     ensures { λ r. ⌜ now (out .exit) ≡ digestAnswer (now (message .entry)) .bytes ⌝ }
 {
     let d = digest::sha256(message);
     let b = d.bytes;
     *out = b;
-    d.number
+    d.code
 }
 
 // A fresh world with 0; 25 and a world of zeros where no world may start so.

@@ -4,7 +4,7 @@ use mathlib.Core.Path.{refl}
 use lib.Count.{onesIn, ones}
 use Rattle.search.specs.Search.{firstFrom, count}
 use Rattle.search.specs.Tests.{must}
-use Rattle.digest.specs.Sha256.{padded, nextWord, scheduled, roundOf, roundsOf, fed, blockWords, compressed, hashed, stateBytes, digestOf}
+use Rattle.fips180.specs.Sha256.{padded, nextWord, scheduled, roundOf, roundsOf, fed, blockWords, compressed, hashed, stateBytes, digestOf}
 use Rattle.world.specs.Masks.{has, join}
 use Rattle.world.specs.Requests.{freshRequests, requestBytes, sameDigest, knownDigest}
 use Rattle.world.specs.Executions.{freshExecutions, ordered}
@@ -12,12 +12,12 @@ use Rattle.world.specs.Outgoing.{freshOutgoing, postedAt, posted, sentBelow}
 use Rattle.world.specs.Hold.{freshHold, keptAt, kept}
 use Rattle.world.specs.Delivered.{freshDelivered}
 use Rattle.world.specs.Fresh.{freshWorld}
-use Rattle.rules.specs.Rules.{made, recorded, requestFrom, requestOf, multicastDone, multicastOf, arriveOf, proposeTo, proposeFound, proposeOf, settleTo, settleFound, settleOf, deliverFound, deliverOf, forgeSendOf}
-use Rattle.schedule.specs.Fields.{bytesAt}
-use Rattle.schedule.specs.Records.{formOf, readBy, readAt, askedBy, askedAfter}
-use Rattle.schedule.specs.Judging.{scanBy, scanFrom, scanned, recordsJudged, judged}
-use Rattle.rehearsal.specs.Steps.{stepOf, worldAfter, answersOf}
-use Rattle.listing.specs.Listing.{decimalIn, stepLines, itemTexts, serverLines, listingOf}
+use Rattle.protocol.specs.Rules.{made, recorded, requestFrom, requestOf, multicastDone, multicastOf, arriveOf, proposeTo, proposeFound, proposeOf, settleTo, settleFound, settleOf, deliverFound, deliverOf, forgeSendOf}
+use Rattle.format.specs.Fields.{bytesAt}
+use Rattle.format.specs.Records.{formOf, readBy, readAt, askedBy, askedAfter}
+use Rattle.format.specs.Judging.{scanBy, scanFrom, scanned, recordsJudged, judged}
+use Rattle.protocol.specs.Steps.{stepOf, worldAfter, answersOf}
+use Rattle.protocol.specs.Listing.{decimalIn, stepLines, itemTexts, serverLines, listingOf}
 use Rattle.cases.specs.Texts.{codes, lines, unspaced, paired, bytes, repeated}
 use Rattle.cases.specs.Cases.{TableHolds}
 

@@ -4,8 +4,8 @@
 use Prim.Native.String.{String, _++_}
 use mathlib.Core.Path.{_≡_}
 use mathlib.Core.List.{List, [], _∷_}
-use Rattle.schedule.specs.Judging.{scheduleMost}
-use Rattle.listing.specs.Listing.{listingOf}
+use Rattle.format.specs.Judging.{scheduleMost}
+use Rattle.protocol.specs.Listing.{listingOf}
 use Rattle.cases.specs.Texts.{lines, bytes, repeated}
 
 -- its name, the schedule in hex, and the lines of the listing

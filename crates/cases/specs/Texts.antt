@@ -6,7 +6,7 @@ use Prim.Native.String as text
 use mathlib.Core.Bool.{cond}
 use mathlib.Core.List.{List, [], _∷_, _++_}
 use lib.Dec.{eqb, ltb}
-use Rattle.listing.specs.Listing.{newline, blank}
+use Rattle.protocol.specs.Listing.{newline, blank}
 
 -- the codes of a text's characters: its bytes, since all are of ASCII
 unfoldable pub codes : String → List ℕ

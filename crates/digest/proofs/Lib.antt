@@ -1,4 +1,3 @@
-pub mod Filling
 pub mod Padding
 pub mod Unique
 pub mod Short

@@ -7,7 +7,7 @@ use native.Mathlib.Omega.{arith}
 use lib.ListN.{length, getD, set, replicate, length-replicate, getD-replicate, List·getD-append, length-append}
 use lib.Seq.{sets, getD-append-add, getD-append-seam}
 use lib.Bits.{bitAnd, and-mask}
-use Rattle.digest.specs.Sha256.{blockBytes, be, padded, zeros, blocks}
+use Rattle.fips180.specs.Sha256.{blockBytes, be, padded, zeros, blocks}
 
 -- the byte j of k, the highest first, with i behind it
 be-at : (k j i x : ℕ) → i + suc j ≡ k → getD (be k x) j 0 ≡ x / 2 ^ (8 * i) % 256
@@ -19,13 +19,6 @@ pub masked : (x j : ℕ) → j < 8 → bitAnd (x / 2 ^ (56 - j * 8)) 255 ≡ get
 masked x j h =
     let e : 56 - j * 8 ≡ 8 * (7 - j) = omega arith in
     rw e (and-mask (x / 2 ^ (8 * (7 - j))) 8 ∙ sym (be-at 8 j (7 - j) x (omega arith)))
-
--- a word's four bytes stored one by one
-pub put-four : (o : List ℕ) (i x : ℕ)
-    → set (set (set (set o i (x / 2 ^ 24 % 256)) (i + 1) (x / 2 ^ 16 % 256)) (i + 2) (x / 2 ^ 8 % 256)) (i + 3) (x % 256) ≡ sets o i (be 4 x)
-put-four o i x =
-    let e : x ≡ x / 2 ^ 0 = omega arith in
-    simp (add-one, add-two, add-three) (ap (λ (y : ℕ). set (set (set (set o i (x / 2 ^ 24 % 256)) (suc i) (x / 2 ^ 16 % 256)) (suc (suc i)) (x / 2 ^ 8 % 256)) (suc (suc (suc i))) (y % 256)) e)
 
 module _ (s : List ℕ) where
   tail : List ℕ

@@ -4,8 +4,8 @@ use mathlib.Core.List.{List}
 use Prim.Native.Nat.{ℕ, _≤_}
 use lib.ListN.{length}
 use borrow.Author.Tests.{le-ltb}
-use Rattle.digest.specs.Sha256.{digestOf}
-use Rattle.digest.specs.Digest.{messageMost, digestAnswer}
+use Rattle.fips180.specs.Sha256.{digestOf}
+use Rattle.fips180.specs.Digest.{messageMost, digestAnswer}
 
 pub short-digest : (s : List ℕ) → length s ≤ messageMost → digestAnswer s .bytes ≡ digestOf s
 unfolding digestAnswer

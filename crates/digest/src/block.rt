@@ -2,38 +2,32 @@
 ghost use mathlib.Core.Path.{_≡_};
 ghost use Prim.Native.Nat.{_+_, _/_, _<_, _^_};
 ghost use lib.ListN.{length, getD};
-ghost use Rattle.digest.specs.Sha256.{be, padded, blocks, blockOf};
+ghost use Rattle.fips180.specs.Sha256.{be, padded, blocks, blockOf};
+use fips180::Block;
 
-pub struct Block {
-    pub bytes: [u8; Block::BYTES],
+// The bytes of the padding that every message has: the mark and the length.
+const TAIL: usize = 9;
+
+// How many blocks a message of n bytes is padded to.
+pub(crate) fn block_count(n: usize) -> usize
+    requires { ⌜ n < 2 ^ 60 ⌝ }
+    ensures { λ r. ⌜ r ≡ (n + 72) / 64 ⌝ }
+{
+    (n + TAIL + (Block::BYTES - 1)) / Block::BYTES
 }
 
-impl Block {
-    pub const BYTES: usize = 64;
-    // The bytes of the padding that every message has: the mark and the length.
-    const TAIL: usize = 9;
-
-    // How many blocks a message of n bytes is padded to.
-    pub(crate) fn count(n: usize) -> usize
-        requires { ⌜ n < 2 ^ 60 ⌝ }
-        ensures { λ r. ⌜ r ≡ (n + 72) / 64 ⌝ }
-    {
-        (n + Block::TAIL + (Block::BYTES - 1)) / Block::BYTES
+// The block k of the padded message.
+pub(crate) fn block_of(s: &[u8], k: usize) -> Block
+    requires { ⌜ (length (now s) < 2 ^ 60) × (k < blocks (padded (now s))) ⌝ }
+    ensures { λ r. ⌜ r .bytes ≡ blockOf (padded (now (s .entry))) k ⌝ }
+{
+    let mut b = [0u8; Block::BYTES];
+    let mut j: usize = 0;
+    while j < Block::BYTES {
+        b[j] = padded_byte(s, k * Block::BYTES + j);
+        j += 1;
     }
-
-    // The block k of the padded message.
-    pub(crate) fn of(s: &[u8], k: usize) -> Block
-        requires { ⌜ (length (now s) < 2 ^ 60) × (k < blocks (padded (now s))) ⌝ }
-        ensures { λ r. ⌜ r .bytes ≡ blockOf (padded (now (s .entry))) k ⌝ }
-    {
-        let mut b = [0u8; Block::BYTES];
-        let mut j: usize = 0;
-        while j < Block::BYTES {
-            b[j] = padded_byte(s, k * Block::BYTES + j);
-            j += 1;
-        }
-        Block { bytes: b }
-    }
+    Block { bytes: b }
 }
 
 // The byte j of the eight of x, the highest first.
@@ -56,7 +50,7 @@ fn padded_byte(s: &[u8], p: usize) -> u8
     if p == n {
         return 0x80;
     }
-    let e = Block::count(n) * Block::BYTES - 8;
+    let e = block_count(n) * Block::BYTES - 8;
     if p < e {
         return 0;
     }

@@ -12,7 +12,7 @@ use Rattle.search.specs.declared.Found.{Found}
 use Rattle.search.specs.declared.Found.the-variants.{At, Nothing}
 use Rattle.search.specs.Search.{firstFrom, count}
 use Rattle.search.specs.Tests.{must}
-use Rattle.digest.specs.Sha256.{padded, nextWord, scheduled, roundOf, roundsOf, fed, blockWords, compressed, hashed, stateBytes, digestOf}
+use Rattle.fips180.specs.Sha256.{padded, nextWord, scheduled, roundOf, roundsOf, fed, blockWords, compressed, hashed, stateBytes, digestOf}
 use Rattle.world.specs.declared.World.{World}
 use Rattle.world.specs.declared.roster.Roster.{Roster}
 use Rattle.world.specs.Masks.{has, join}
@@ -23,12 +23,12 @@ use Rattle.world.specs.Outgoing.{freshOutgoing, postedAt, posted, sentBelow}
 use Rattle.world.specs.Hold.{freshHold, keptAt, kept}
 use Rattle.world.specs.Delivered.{freshDelivered}
 use Rattle.world.specs.Fresh.{freshWorld}
-use Rattle.rules.specs.declared.boxes.Boxes.{Boxes}
-use Rattle.rules.specs.Rules.{made, recorded, requestFrom, requestOf, multicastDone, multicastOf, arriveOf, proposeTo, proposeFound, proposeOf, settleTo, settleFound, settleOf, deliverFound, deliverOf, forgePacketOf, forgeSendOf, forgeReceiveTo, forgeReceiveFound, forgeReceiveOf}
-use Rattle.soundness.specs.Quiet.{outgoingQuiet, stirs, holdQuiet, serverQuiet, quiet}
-use Rattle.schedule.specs.Records.{Asked, Request, Multicast, Arrive, Propose, Settle, Deliver, ForgePacket, ForgeSend, ForgeReceive}
-use Rattle.rehearsal.specs.Steps.{stepOf}
-use Rattle.kept.proofs.Every.{and3}
+use Rattle.protocol.specs.declared.boxes.Boxes.{Boxes}
+use Rattle.protocol.specs.Rules.{made, recorded, requestFrom, requestOf, multicastDone, multicastOf, arriveOf, proposeTo, proposeFound, proposeOf, settleTo, settleFound, settleOf, deliverFound, deliverOf, forgePacketOf, forgeSendOf, forgeReceiveTo, forgeReceiveFound, forgeReceiveOf}
+use Rattle.protocol.specs.Quiet.{outgoingQuiet, stirs, holdQuiet, serverQuiet, quiet}
+use Rattle.format.specs.Records.{Asked, Request, Multicast, Arrive, Propose, Settle, Deliver, ForgePacket, ForgeSend, ForgeReceive}
+use Rattle.protocol.specs.Steps.{stepOf}
+use Rattle.search.proofs.Booleans.{and3}
 use Rattle.agreement.specs.Agreement.{through, Demand, byRecord, deliveredBy}
 use Rattle.agreement.specs.Sanity.{LeftBehind}
 use Rattle.agreement.proofs.Members.{Good}

@@ -20,12 +20,12 @@ use Rattle.world.specs.Outgoing.{packetAt, cleared}
 use Rattle.world.specs.Hold.{entryOf, entryAt, holding, vacancy, kept}
 use Rattle.world.specs.Boxes.{outgoingOf, holdOf}
 use Rattle.world.specs.Fresh.{freshWorld}
-use Rattle.rules.specs.declared.answer.Answer.the-variants.{Done, Dropped, Wait, BadServer, WrongSide, NoSuch, NoRoom}
-use Rattle.rules.specs.declared.boxes.Boxes.{Boxes}
-use Rattle.rules.specs.declared.boxes.Stepped.{Stepped}
-use Rattle.rules.specs.Rules.{answered, withHold, withOutgoing, recorded, raised, droppedAt, requestFrom, arriveOf, proposeTo, proposeOf}
-use Rattle.schedule.specs.Records.{Asked, Request, Multicast, Arrive, Propose, Settle, Deliver, ForgePacket, ForgeSend, ForgeReceive}
-use Rattle.rehearsal.specs.Steps.{touch, on}
+use Rattle.protocol.specs.declared.answer.Answer.the-variants.{Done, Dropped, Wait, BadServer, WrongSide, NoSuch, NoRoom}
+use Rattle.protocol.specs.declared.boxes.Boxes.{Boxes}
+use Rattle.protocol.specs.declared.boxes.Stepped.{Stepped}
+use Rattle.protocol.specs.Rules.{answered, withHold, withOutgoing, recorded, raised, droppedAt, requestFrom, arriveOf, proposeTo, proposeOf}
+use Rattle.format.specs.Records.{Asked, Request, Multicast, Arrive, Propose, Settle, Deliver, ForgePacket, ForgeSend, ForgeReceive}
+use Rattle.protocol.specs.Steps.{touch, on}
 use Rattle.agreement.specs.Agreement.{through, Demand, byRecord}
 use Rattle.agreement.specs.Sanity.{LeftBehind}
 use Rattle.agreement.proofs.Members.{Good}

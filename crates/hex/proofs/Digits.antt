@@ -6,7 +6,7 @@ use native.Mathlib.Numerals.{add-one}
 use native.Mathlib.Omega.{arith}
 use lib.ListN.{length, getD, take, set, length-set}
 use lib.Seq.{take-all, take-suc, getD-set-other}
-use Rattle.digest.proofs.Filling.{stored}
+use Rattle.search.proofs.Filling.{stored}
 use Rattle.hex.specs.Hex.{digit, hexDigits}
 
 -- two more digits

@@ -2,9 +2,9 @@
 use mathlib.Core.Path.{ap, sym, _∙_}
 use mathlib.Core.List.{List}
 use Prim.Native.Nat.{ℕ}
-use Rattle.settled.specs.Settled.{Settled}
+use Rattle.unique.specs.Unique.{Unique}
 use Rattle.hex.proofs.Line.of.Kinds as of-kinds
 use Rattle.hex.proofs.Line.of.Reads as of-reads
 
-pub of-settled : Settled 0 of-kinds.ps of-kinds.r of-reads.Post
-of-settled κs a x y e f p q = ap (λ (t : List ℕ). record { text = t }) (p ∙ sym q)
+pub of-unique : Unique 0 of-kinds.ps of-kinds.r of-reads.Post
+of-unique κs a x y e f p q = ap (λ (t : List ℕ). record { text = t }) (p ∙ sym q)

@@ -4,7 +4,7 @@ use mathlib.Core.Bool.{cond}
 use mathlib.Core.List.{List, [], _∷_, _++_}
 use lib.Dec.{ltb}
 use lib.ListN.{getD}
-use Rattle.digest.specs.Digest.{digestBytes}
+use Rattle.fips180.specs.Digest.{digestBytes}
 
 -- '0' to '9' are 48 to 57, 'a' to 'f' are 97 to 102
 abbrev pub digit : ℕ → ℕ

@@ -1,7 +1,7 @@
 // Digests as text.
 ghost use mathlib.Core.Path.{_≡_};
 ghost use Rattle.hex.specs.Hex.{digit, hexLine};
-use digest::Digest;
+use fips180::Digest;
 
 // A line of text: two digits a byte, and the newline.
 pub struct Line {
@@ -9,7 +9,7 @@ pub struct Line {
 }
 
 impl Line {
-    pub const BYTES: usize = 65;
+    pub const BYTES: usize = 2 * Digest::BYTES + 1;
 
     // The digest in hex, lower case, highest digit first.
     pub fn of(bytes: [u8; Digest::BYTES]) -> Line

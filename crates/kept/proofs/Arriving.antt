@@ -11,10 +11,10 @@ use Rattle.world.specs.Sizes.{outgoingPlaces}
 use Rattle.world.specs.Roster.{member, faulty}
 use Rattle.world.specs.Outgoing.{freePacket, packetAt}
 use Rattle.world.specs.Hold.{entryOf, holding, vacancy}
-use Rattle.rules.specs.declared.boxes.Boxes.{Boxes}
-use Rattle.rules.specs.declared.boxes.Stepped.{Stepped}
-use Rattle.rules.specs.Rules.{arriveOf}
-use Rattle.kept.proofs.Every.{apart, musts}
+use Rattle.protocol.specs.declared.boxes.Boxes.{Boxes}
+use Rattle.protocol.specs.declared.boxes.Stepped.{Stepped}
+use Rattle.protocol.specs.Rules.{arriveOf}
+use Rattle.search.proofs.Booleans.{apart, musts}
 use Rattle.kept.proofs.Facts.{inside}
 use Rattle.kept.proofs.Places.{first-entry, entry-kept, packet-out, packet-cleared}
 use Rattle.kept.proofs.Putting.{Fits, Keeps, with-hold, with-outgoing}

@@ -16,10 +16,10 @@ use Rattle.world.specs.Masks.{has}
 use Rattle.world.specs.Roster.{member, faulty}
 use Rattle.world.specs.Requests.{sameDigest}
 use Rattle.world.specs.Executions.{executionAt, executionOf}
-use Rattle.rules.specs.declared.boxes.Boxes.{Boxes}
-use Rattle.rules.specs.declared.boxes.Stepped.{Stepped}
-use Rattle.rules.specs.Rules.{forgeSendOf, forgeReceiveTo, forgeReceiveFound, forgeReceiveOf}
-use Rattle.kept.proofs.Every.{apart, musts, and2, not-out}
+use Rattle.protocol.specs.declared.boxes.Boxes.{Boxes}
+use Rattle.protocol.specs.declared.boxes.Stepped.{Stepped}
+use Rattle.protocol.specs.Rules.{forgeSendOf, forgeReceiveTo, forgeReceiveFound, forgeReceiveOf}
+use Rattle.search.proofs.Booleans.{apart, musts, and2, not-out}
 use Rattle.kept.proofs.Ordering.{found-made, not-found, made-fits, recorded-fits}
 use Rattle.kept.proofs.Putting.{Fits, Keeps}
 

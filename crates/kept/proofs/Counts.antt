@@ -8,7 +8,8 @@ use lib.Dec.{eqb}
 use borrow.Author.Tests.{eq-eqb, ne-eqb}
 use Rattle.search.specs.Search.{any, count}
 use Rattle.search.proofs.Laws.{count-same}
-use Rattle.kept.proofs.Every.{either, test, same?, any-none}
+use Rattle.search.proofs.Booleans.{either, test, same?}
+use Rattle.search.proofs.Every.{any-none}
 
 count-none : (t : ℕ → Bool) (n : ℕ) → ((i : ℕ) → i < n → t i ≡ false) → count t n ≡ 0
 unfolding count

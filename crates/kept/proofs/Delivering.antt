@@ -16,11 +16,12 @@ use Rattle.world.specs.Sizes.{holdPlaces}
 use Rattle.world.specs.Roster.{member, faulty}
 use Rattle.world.specs.Hold.{entryAt, readyPlace}
 use Rattle.world.specs.Delivered.{nextOf}
-use Rattle.soundness.specs.Sound.{stageSound}
-use Rattle.rules.specs.declared.boxes.Boxes.{Boxes}
-use Rattle.rules.specs.declared.boxes.Stepped.{Stepped}
-use Rattle.rules.specs.Rules.{deliverFound, deliverOf}
-use Rattle.kept.proofs.Every.{musts, and2, and-both, found-at}
+use Rattle.protocol.specs.Sound.{stageSound}
+use Rattle.protocol.specs.declared.boxes.Boxes.{Boxes}
+use Rattle.protocol.specs.declared.boxes.Stepped.{Stepped}
+use Rattle.protocol.specs.Rules.{deliverFound, deliverOf}
+use Rattle.search.proofs.Booleans.{musts, and2, and-both}
+use Rattle.search.proofs.Every.{found-at}
 use Rattle.kept.proofs.Facts.{entry-out}
 use Rattle.kept.proofs.Places.{entry-freed, item-appended}
 use Rattle.kept.proofs.Putting.{Fits, Keeps, with-hold, with-delivered}

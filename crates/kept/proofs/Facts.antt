@@ -11,7 +11,7 @@ use lib.ListN.{length, getD, set}
 use lib.Seq.{getD-set-same, getD-set-other}
 use borrow.Author.Tests.{eq-eqb, eqb-true, ne-eqb, leb-true, le-leb, ltb-true, lt-ltb}
 use Rattle.search.specs.Search.{isFound, every, count}
-use Rattle.digest.specs.Digest.{digestBytes}
+use Rattle.fips180.specs.Digest.{digestBytes}
 use Rattle.world.specs.declared.World.{World}
 use Rattle.world.specs.declared.roster.Roster.{Roster}
 use Rattle.world.specs.declared.request.Requests.{Requests}
@@ -28,13 +28,15 @@ use Rattle.world.specs.Executions.{executionAt}
 use Rattle.world.specs.Outgoing.{packetAt}
 use Rattle.world.specs.Hold.{entryAt}
 use Rattle.world.specs.Boxes.{executionsOf, outgoingOf, holdOf, deliveredOf, itemAt}
-use Rattle.world.proofs.Lists.{getD-out}
-use Rattle.soundness.specs.Zeros.{zeroBytes}
-use Rattle.soundness.specs.Names.{names, tableOf, ownExecution}
-use Rattle.soundness.specs.Sound.{implies, slotSound, newDigest, requestsSound, masksSound, orderSound, executionSound, placeSound, newId, executionsSound, numberAt, numbersSound, packetSound, outgoingSound, stageSound, entrySound, holdSound, itemSound, deliveredSound, serverSound, serversSound, sound}
-use Rattle.soundness.proofs.Seats.{seat-own}
+use Rattle.search.proofs.Lists.{getD-out}
+use Rattle.protocol.specs.Zeros.{zeroBytes}
+use Rattle.protocol.specs.Names.{names, tableOf, ownExecution}
+use Rattle.protocol.specs.Sound.{slotSound, newDigest, requestsSound, masksSound, orderSound, executionSound, placeSound, newId, executionsSound, numberAt, numbersSound, packetSound, outgoingSound, stageSound, entrySound, holdSound, itemSound, deliveredSound, serverSound, serversSound, sound}
+use Rattle.search.specs.Tests.{implies}
+use Rattle.world.proofs.Seats.{seat-own}
 use Rattle.kept.specs.Kept.{Shaped}
-use Rattle.kept.proofs.Every.{either, test, same?, less?, and2, and3, and4, and5, and-both, implies-in, implies-out, every-at, every-all}
+use Rattle.search.proofs.Booleans.{either, test, same?, less?, and2, and3, and4, and5, and-both, implies-in, implies-out}
+use Rattle.search.proofs.Every.{every-at, every-all}
 use Rattle.kept.proofs.Counts.{Numbers}
 
 -- what reads past the boxes give

@@ -10,10 +10,10 @@ use Rattle.world.specs.declared.execution.Executions.{Executions}
 use Rattle.world.specs.declared.outgoing.Sending.{Sending}
 use Rattle.world.specs.Roster.{member, faulty}
 use Rattle.world.specs.Outgoing.{freePlace, packetFor}
-use Rattle.rules.specs.declared.boxes.Boxes.{Boxes}
-use Rattle.rules.specs.declared.boxes.Stepped.{Stepped}
-use Rattle.rules.specs.Rules.{forgePacketOf}
-use Rattle.kept.proofs.Every.{musts, and3, and-both}
+use Rattle.protocol.specs.declared.boxes.Boxes.{Boxes}
+use Rattle.protocol.specs.declared.boxes.Stepped.{Stepped}
+use Rattle.protocol.specs.Rules.{forgePacketOf}
+use Rattle.search.proofs.Booleans.{musts, and3, and-both}
 use Rattle.kept.proofs.Places.{packet-posted, sending-sound}
 use Rattle.kept.proofs.Putting.{Fits, Keeps, with-outgoing}
 

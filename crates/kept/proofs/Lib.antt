@@ -1,6 +1,4 @@
-pub mod Every
 pub mod Counts
-pub mod Bits
 pub mod Facts
 pub mod Start
 pub mod More

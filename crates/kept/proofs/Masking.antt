@@ -15,9 +15,11 @@ use Rattle.world.specs.Sizes.{servers, executionsMost}
 use Rattle.world.specs.Masks.{nobody, has, join}
 use Rattle.world.specs.Roster.{member, correct, threshold, strays}
 use Rattle.world.specs.Executions.{nextNumber, opened, called, withNumber, ordered}
-use Rattle.soundness.specs.Sound.{implies, liesWithin, masksSound, orderSound}
-use Rattle.kept.proofs.Every.{apart, either, test, chosen, and2, and5, and-both, implies-in, implies-out, not-in, not-out, not-no, any-none, any-no, every-at, every-all}
-use Rattle.kept.proofs.Bits.{join-same, join-back, join-keeps, nobody-has}
+use Rattle.protocol.specs.Sound.{liesWithin, masksSound, orderSound}
+use Rattle.search.specs.Tests.{implies}
+use Rattle.search.proofs.Booleans.{apart, either, test, chosen, and2, and5, and-both, implies-in, implies-out, not-in, not-out, not-no}
+use Rattle.search.proofs.Every.{any-none, any-no, every-at, every-all}
+use Rattle.world.proofs.Bits.{join-same, join-back, join-keeps, nobody-has}
 use Rattle.kept.proofs.Facts.{Made}
 
 -- no bit at n or above

@@ -23,9 +23,9 @@ use Rattle.world.specs.Sizes.{servers}
 use Rattle.world.specs.Roster.{member, threshold}
 use Rattle.world.specs.Executions.{executionOf}
 use Rattle.world.specs.Hold.{entryAt}
-use Rattle.soundness.specs.Names.{names, tableOf}
-use Rattle.soundness.specs.Sound.{orderSound, placeSound, packetSound, stageSound, entrySound, itemSound}
-use Rattle.kept.proofs.Every.{test, and2, and3, and-both}
+use Rattle.protocol.specs.Names.{names, tableOf}
+use Rattle.protocol.specs.Sound.{orderSound, placeSound, packetSound, stageSound, entrySound, itemSound}
+use Rattle.search.proofs.Booleans.{test, and2, and3, and-both}
 use Rattle.kept.proofs.Facts.{Table, Made, Packets, Entries, Items, place-in, place-out, entry-in, entry-out}
 
 slot-more : (slot stored more : ℕ) → stored ≤ more → ltb slot stored ≡ true → ltb slot more ≡ true

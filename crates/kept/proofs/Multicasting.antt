@@ -15,10 +15,10 @@ use Rattle.world.specs.Masks.{nobody, has}
 use Rattle.world.specs.Roster.{member, faulty, correct}
 use Rattle.world.specs.Executions.{executionAt}
 use Rattle.world.specs.Hold.{entryOf}
-use Rattle.rules.specs.declared.boxes.Boxes.{Boxes}
-use Rattle.rules.specs.declared.boxes.Stepped.{Stepped}
-use Rattle.rules.specs.Rules.{made, multicastDone, roomy, multicastOf}
-use Rattle.kept.proofs.Every.{musts, and-both}
+use Rattle.protocol.specs.declared.boxes.Boxes.{Boxes}
+use Rattle.protocol.specs.declared.boxes.Stepped.{Stepped}
+use Rattle.protocol.specs.Rules.{made, multicastDone, roomy, multicastOf}
+use Rattle.search.proofs.Booleans.{musts, and-both}
 use Rattle.kept.proofs.Facts.{Table, place-out}
 use Rattle.kept.proofs.Places.{second-entry, entry-kept, packets-sent}
 use Rattle.kept.proofs.Ordering.{made-fits, made-found}

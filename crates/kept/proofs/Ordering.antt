@@ -19,11 +19,12 @@ use Rattle.world.specs.declared.execution.Ordered.{Ordered}
 use Rattle.world.specs.Sizes.{servers, executionsMost}
 use Rattle.world.specs.Roster.{member, correct}
 use Rattle.world.specs.Executions.{noExecution, executionAt, executionOf, opened, called, ordered}
-use Rattle.soundness.specs.Sound.{orderSound, placeSound, newId, numberAt}
-use Rattle.soundness.proofs.Seats.{seat-own}
-use Rattle.rules.specs.declared.boxes.Boxes.{Boxes}
-use Rattle.rules.specs.Rules.{withExecutions, made, recorded}
-use Rattle.kept.proofs.Every.{either, same?, less?, sides-more, and2, or-left, not-in, not-out, found-at, found-where, and-both, any-in, any-none, every-at, every-all}
+use Rattle.protocol.specs.Sound.{orderSound, placeSound, newId, numberAt}
+use Rattle.world.proofs.Seats.{seat-own}
+use Rattle.protocol.specs.declared.boxes.Boxes.{Boxes}
+use Rattle.protocol.specs.Rules.{withExecutions, made, recorded}
+use Rattle.search.proofs.Booleans.{either, same?, less?, sides-more, and2, or-left, not-in, not-out, and-both}
+use Rattle.search.proofs.Every.{found-at, found-where, any-in, any-none, every-at, every-all}
 use Rattle.kept.proofs.Counts.{Numbers, numbers-same, numbers-more}
 use Rattle.kept.proofs.Facts.{noTable, set-cases, Table, Made, place-in, place-out, place-unused}
 use Rattle.kept.proofs.More.{Grows, place-more, entries-more, items-more}

@@ -27,9 +27,9 @@ use Rattle.world.specs.Roster.{member}
 use Rattle.world.specs.Outgoing.{freePacket, packetFor, freePlace, putPacket, cleared, postedAt, posted, recipient, sentBelow, sent}
 use Rattle.world.specs.Hold.{entryOf, freeEntry, vacancy, put, freed, keptAt, kept}
 use Rattle.world.specs.Delivered.{unusedItem, nextOf, appended}
-use Rattle.soundness.specs.Names.{names, tableOf, ownExecution}
-use Rattle.soundness.specs.Sound.{packetSound, stageSound, entrySound, itemSound}
-use Rattle.kept.proofs.Every.{sides-more, chosen, and2, and3, and-both, or-left}
+use Rattle.protocol.specs.Names.{names, tableOf, ownExecution}
+use Rattle.protocol.specs.Sound.{packetSound, stageSound, entrySound, itemSound}
+use Rattle.search.proofs.Booleans.{sides-more, chosen, and2, and3, and-both, or-left}
 use Rattle.kept.proofs.Facts.{set-cases, Packets, Entries, Items, entry-in}
 
 -- an entry at stage one, and one at stage two, whose execution is in the table

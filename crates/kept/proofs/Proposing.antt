@@ -23,12 +23,12 @@ use Rattle.world.specs.Executions.{executionAt, executionOf}
 use Rattle.world.specs.Outgoing.{needed, freePlaces}
 use Rattle.world.specs.Hold.{entryOf, freeEntry, entryAt}
 use Rattle.world.specs.Boxes.{seat}
-use Rattle.soundness.specs.Names.{tableOf, ownExecution}
-use Rattle.soundness.proofs.Seats.{seat-own}
-use Rattle.rules.specs.declared.boxes.Boxes.{Boxes}
-use Rattle.rules.specs.declared.boxes.Stepped.{Stepped}
-use Rattle.rules.specs.Rules.{raised, droppedAt, proposeTo, proposeFound, proposeOf, settleTo, settleFound, settleOf}
-use Rattle.kept.proofs.Every.{musts, and-both, not-out}
+use Rattle.protocol.specs.Names.{tableOf, ownExecution}
+use Rattle.world.proofs.Seats.{seat-own}
+use Rattle.protocol.specs.declared.boxes.Boxes.{Boxes}
+use Rattle.protocol.specs.declared.boxes.Stepped.{Stepped}
+use Rattle.protocol.specs.Rules.{raised, droppedAt, proposeTo, proposeFound, proposeOf, settleTo, settleFound, settleOf}
+use Rattle.search.proofs.Booleans.{musts, and-both, not-out}
 use Rattle.kept.proofs.Facts.{noTable, inside, Held, entry-out, place-out, order-low}
 use Rattle.kept.proofs.Places.{second-entry, third-entry, entry-put, entry-freed, packets-sent}
 use Rattle.kept.proofs.Ordering.{found-made, recorded-fits}

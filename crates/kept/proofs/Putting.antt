@@ -14,13 +14,13 @@ use Rattle.world.specs.declared.hold.Hold.{Hold}
 use Rattle.world.specs.declared.delivered.Delivered.{Delivered}
 use Rattle.world.specs.Sizes.{servers, executionsMost}
 use Rattle.world.specs.Boxes.{seat}
-use Rattle.soundness.specs.Names.{tableOf}
-use Rattle.soundness.specs.Sound.{numberAt}
-use Rattle.rules.specs.declared.boxes.Boxes.{Boxes}
-use Rattle.rules.specs.declared.boxes.Stepped.{Stepped}
-use Rattle.rules.specs.Rules.{withHold, withOutgoing, withDelivered}
-use Rattle.rehearsal.specs.declared.boxing.Touch.{Touch}
-use Rattle.rehearsal.specs.Steps.{boxesOf, putBack}
+use Rattle.protocol.specs.Names.{tableOf}
+use Rattle.protocol.specs.Sound.{numberAt}
+use Rattle.protocol.specs.declared.boxes.Boxes.{Boxes}
+use Rattle.protocol.specs.declared.boxes.Stepped.{Stepped}
+use Rattle.protocol.specs.Rules.{withHold, withOutgoing, withDelivered}
+use Rattle.protocol.specs.declared.boxes.Touch.{Touch}
+use Rattle.protocol.specs.Steps.{boxesOf, putBack}
 use Rattle.kept.proofs.Counts.{Numbers}
 use Rattle.kept.proofs.Facts.{noTable, noPackets, noEntries, noItems, set-cases, Table, Packets, Entries, Items, FactsOf}
 use Rattle.kept.proofs.More.{Grows, table-more, entries-more, items-more}

@@ -8,7 +8,7 @@ use native.Mathlib.Omega.{arith}
 use lib.Dec.{eqb, ltb}
 use lib.ListN.{getD, set, length-set}
 use borrow.Author.Tests.{eq-eqb, ltb-true, lt-ltb}
-use Rattle.digest.specs.Digest.{digestBytes}
+use Rattle.fips180.specs.Digest.{digestBytes}
 use Rattle.world.specs.declared.World.{World}
 use Rattle.world.specs.declared.roster.Roster.{Roster}
 use Rattle.world.specs.declared.request.Request.{Request}
@@ -16,11 +16,12 @@ use Rattle.world.specs.declared.request.Requests.{Requests}
 use Rattle.world.specs.Sizes.{requestsMost}
 use Rattle.world.specs.Roster.{strays}
 use Rattle.world.specs.Requests.{noRequest, requestAt, requestBytes, sameDigest, knownDigest}
-use Rattle.rules.specs.declared.storing.Requested.{Requested}
-use Rattle.rules.specs.Rules.{requestFrom, requestOf}
-use Rattle.soundness.specs.Sound.{storedSound, slotSound, newDigest}
-use Rattle.rehearsal.specs.Steps.{withRequests}
-use Rattle.kept.proofs.Every.{sides-more, musts, and-both, not-in, not-out, any-none, every-at, every-all}
+use Rattle.protocol.specs.declared.boxes.Requested.{Requested}
+use Rattle.protocol.specs.Rules.{requestFrom, requestOf}
+use Rattle.protocol.specs.Sound.{storedSound, slotSound, newDigest}
+use Rattle.protocol.specs.Steps.{withRequests}
+use Rattle.search.proofs.Booleans.{sides-more, musts, and-both, not-in, not-out}
+use Rattle.search.proofs.Every.{any-none, every-at, every-all}
 use Rattle.kept.proofs.Facts.{set-cases, Stored, FactsOf}
 use Rattle.kept.proofs.More.{packets-more, entries-more, items-more}
 

@@ -17,9 +17,9 @@ use Rattle.world.specs.Outgoing.{freshOutgoing, freePacket}
 use Rattle.world.specs.Hold.{freshHold, freeEntry}
 use Rattle.world.specs.Delivered.{freshDelivered, unusedItem}
 use Rattle.world.specs.Fresh.{freshWorld}
-use Rattle.soundness.specs.Zeros.{zeroBytes}
-use Rattle.soundness.specs.Sound.{slotSound, placeSound, numbersSound, packetSound, entrySound, itemSound}
-use Rattle.kept.proofs.Every.{or-right}
+use Rattle.protocol.specs.Zeros.{zeroBytes}
+use Rattle.protocol.specs.Sound.{slotSound, placeSound, numbersSound, packetSound, entrySound, itemSound}
+use Rattle.search.proofs.Booleans.{or-right}
 use Rattle.kept.proofs.Facts.{noTable, noPackets, noEntries, noItems, Stored, Table, Packets, Entries, Items, FactsOf, numbers-out}
 
 module _ (r : Roster) where

@@ -16,24 +16,25 @@ use Rattle.world.specs.Fresh.{freshWorld}
 use Rattle.world.specs.Outgoing.{packetAt}
 use Rattle.world.specs.Hold.{entryAt}
 use Rattle.world.specs.Boxes.{seat, outgoingOf, holdOf}
-use Rattle.soundness.specs.Sound.{sound}
-use Rattle.soundness.proofs.Seats.{seat-own, seated}
-use Rattle.rules.specs.declared.boxes.Boxes.{Boxes}
-use Rattle.schedule.specs.declared.kinds.Form.{Form}
-use Rattle.schedule.specs.declared.kinds.Form.the-variants.{Start, Step, Bad}
-use Rattle.schedule.specs.declared.reading.Refusal.{Refusal}
-use Rattle.schedule.specs.declared.reading.Read.{Read}
-use Rattle.schedule.specs.declared.reading.Read.the-variants as read
-use Rattle.schedule.specs.declared.scanning.Verdict.{Verdict}
-use Rattle.schedule.specs.declared.scanning.Verdict.the-variants.{Accepted, Refused}
-use Rattle.schedule.specs.Fields.{byteAt}
-use Rattle.schedule.specs.Records.{Asked, Request, Multicast, Arrive, Propose, Settle, Deliver, ForgePacket, ForgeSend, ForgeReceive, formOf, readAt, asked}
-use Rattle.schedule.specs.Judging.{scheduleMost, scanned, startJudged, recordsJudged, judged}
-use Rattle.rehearsal.specs.declared.stepping.Taken.{Taken}
-use Rattle.rehearsal.specs.Steps.{touch, boxesOf, putBack, stepOf, worldAfter}
-use Rattle.rehearsal.specs.Runs.{startOf, steppedBy, stepped, startWorld, withRoom, ranBy, ranOf}
+use Rattle.protocol.specs.Sound.{sound}
+use Rattle.world.proofs.Seats.{seat-own, seated, few-servers}
+use Rattle.protocol.specs.declared.boxes.Boxes.{Boxes}
+use Rattle.format.specs.declared.kinds.Form.{Form}
+use Rattle.format.specs.declared.kinds.Form.the-variants.{Start, Step, Bad}
+use Rattle.format.specs.declared.refusal.Refusal.{Refusal}
+use Rattle.format.specs.declared.reading.Read.{Read}
+use Rattle.format.specs.declared.reading.Read.the-variants as read
+use Rattle.format.specs.declared.verdict.Verdict.{Verdict}
+use Rattle.format.specs.declared.verdict.Verdict.the-variants.{Accepted, Refused}
+use Rattle.format.specs.Fields.{byteAt}
+use Rattle.format.specs.Records.{Asked, Request, Multicast, Arrive, Propose, Settle, Deliver, ForgePacket, ForgeSend, ForgeReceive, formOf, readAt, asked}
+use Rattle.format.specs.Judging.{scheduleMost, scanned, startJudged, recordsJudged, judged}
+use Rattle.protocol.specs.declared.ending.Taken.{Taken}
+use Rattle.protocol.specs.Steps.{touch, boxesOf, putBack, stepOf, worldAfter}
+use Rattle.protocol.specs.Runs.{startOf, steppedBy, stepped, startWorld, withRoom, ranBy, ranOf}
+use Rattle.format.proofs.Judged.{never, accepted-means}
 use Rattle.kept.specs.Kept.{StartSound, StartShaped, StepSound, StepShaped, RunSound, RanSound, steppedAll, RowSound}
-use Rattle.kept.proofs.Every.{musts, and4}
+use Rattle.search.proofs.Booleans.{musts, and4}
 use Rattle.kept.proofs.Facts.{FactsOf, world-out, world-in, world-shaped}
 use Rattle.kept.proofs.Start.{start-facts}
 use Rattle.kept.proofs.Putting.{Fits, boxes-fit, put-facts}
@@ -44,9 +45,6 @@ use Rattle.kept.proofs.Forging.{forge-packet-keeps}
 use Rattle.kept.proofs.Calling.{forge-send-keeps, forge-receive-keeps}
 use Rattle.kept.proofs.Proposing.{propose-keeps, settle-keeps}
 use Rattle.kept.proofs.Multicasting.{multicast-keeps}
-
-pub few-servers : (r : Roster) → goodRoster r ≡ true → r .n ≤ servers
-few-servers r e = leb-true (r .n) servers (and4 (leb 1 (r .n)) (leb (r .n) servers) _ (leb (ones (r .faulty)) (faults r)) e .1)
 
 module _ (w : World) (f : FactsOf w) where
   -- a server's name is its seat
@@ -114,34 +112,9 @@ unfolding worldAfter
 run-facts w [] f = f
 run-facts w (a ∷ l) f = run-facts (stepOf w a .world) l (step-facts w a f)
 
--- a schedule that is not refused has a good start
-abbrev pub Accepts : List ℕ → Verdict → Type 0
-Accepts s v = (k : ℕ) → v ≡ Accepted k → goodRoster (record { n = byteAt s 1; faulty = byteAt s 2 }) ≡ true
-
-never : {A : Type 0} {why : Refusal} {at k : ℕ} → Refused why at ≡ Accepted k → A
-never e = let z : _≡_ {A = ℕ} 0 1 = cc in absurd (omega arith)
-
-refused : (s : List ℕ) (why : Refusal) (at : ℕ) → Accepts s (Refused why at)
-refused s why at k e = never e
-
-module _ (s : List ℕ) where
-  accepts-start : (v : Verdict) → Accepts s (startJudged s v)
-  accepts-start (Accepted j) = musts (Accepts s) (goodRoster (record { n = byteAt s 1; faulty = byteAt s 2 })) _ _ (refused s _ _) (λ g _ _. g)
-  accepts-start (Refused why at) = refused s why at
-
-  accepts-form : (v : Form) → Accepts s (recordsJudged s v)
-  unfolding recordsJudged
-  accepts-form (Start body) = musts (Accepts s) (leb body (length s - 1)) _ _ (refused s _ _) (λ _. accepts-start (scanned s (1 + body)))
-  accepts-form (Step kind body) = refused s _ _
-  accepts-form Bad = refused s _ _
-
-  pub accepts : Accepts s (judged s)
-  unfolding judged
-  accepts = musts (Accepts s) (leb (length s) scheduleMost) _ _ (refused s _ _) (λ _. accepts-form (formOf (byteAt s 0)))
-
 pub run-sound : RunSound
 run-sound s k e =
-    world-in (worldAfter (startWorld s) (asked s)) (run-facts (startWorld s) (asked s) (start-facts (byteAt s 1) (byteAt s 2) (accepts s k e)))
+    world-in (worldAfter (startWorld s) (asked s)) (run-facts (startWorld s) (asked s) (start-facts (byteAt s 1) (byteAt s 2) (accepted-means s k e .good)))
 
 -- what holds of the world behind every schedule that is not refused holds of what `run` hands back
 module _ (P : World → Type 0) (s : List ℕ) (room k : ℕ) (h : (j : ℕ) → judged s ≡ Accepted j → P (worldAfter (startWorld s) (asked s))) where

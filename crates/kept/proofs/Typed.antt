@@ -20,7 +20,7 @@ use Rattle.world.proofs.outgoing.Outgoing as outgoing-of
 use Rattle.world.proofs.hold.Hold as hold-of
 use Rattle.world.proofs.delivered.Delivered as delivered-of
 use Rattle.world.proofs.Typed.{outgoing-places, hold-places, delivered-items}
-use Rattle.soundness.proofs.Seats.{seat-own}
+use Rattle.world.proofs.Seats.{seat-own}
 use Rattle.kept.specs.Kept.{Shaped}
 use Rattle.kept.proofs.Facts.{noTable, noPackets, noEntries, noItems}
 

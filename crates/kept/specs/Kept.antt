@@ -10,12 +10,12 @@ use Rattle.world.specs.Sizes.{servers, requestsMost, executionsMost, outgoingPl
 use Rattle.world.specs.Roster.{goodRoster}
 use Rattle.world.specs.Fresh.{freshWorld}
 use Rattle.world.specs.Boxes.{executionsOf, outgoingOf, holdOf, deliveredOf}
-use Rattle.soundness.specs.Sound.{sound}
-use Rattle.schedule.specs.declared.scanning.Verdict.the-variants.{Accepted}
-use Rattle.schedule.specs.Records.{Asked, asked}
-use Rattle.schedule.specs.Judging.{judged}
-use Rattle.rehearsal.specs.Steps.{stepOf, worldAfter}
-use Rattle.rehearsal.specs.Runs.{startOf, stepped, startWorld, ranOf}
+use Rattle.protocol.specs.Sound.{sound}
+use Rattle.format.specs.declared.verdict.Verdict.the-variants.{Accepted}
+use Rattle.format.specs.Records.{Asked, asked}
+use Rattle.format.specs.Judging.{judged}
+use Rattle.protocol.specs.Steps.{stepOf, worldAfter}
+use Rattle.protocol.specs.Runs.{startOf, stepped, startWorld, ranOf}
 
 -- every array of a world has the size that its type says
 pub record Shaped (w : World) : Type 0 where

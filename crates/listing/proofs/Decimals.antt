@@ -7,8 +7,9 @@ use native.Mathlib.Omega.{arith}
 use borrow.Author.Tests.{lt-ltb, le-ltb, ltb-true, ltb-false}
 use lib.Dec.{ltb}
 use lib.ListN.{length, length-append}
-use Rattle.listing.specs.Writing.{Wrote, digitsMost}
-use Rattle.listing.specs.Listing.{digit, decimalIn, decimal}
+use Rattle.listing.specs.Writing.{Wrote}
+use Rattle.protocol.specs.Listing.{digitsMost}
+use Rattle.protocol.specs.Listing.{digit, decimalIn, decimal}
 use Rattle.listing.proofs.Placing.{then}
 
 in-short : (p n : ℕ) → n < 10 → decimalIn (suc p) n ≡ digit n ∷ []

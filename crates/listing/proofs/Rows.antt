@@ -13,7 +13,7 @@ use Rattle.world.specs.declared.World.{World}
 use Rattle.world.specs.declared.delivered.Item.{Item}
 use Rattle.world.specs.Delivered.{unusedItem}
 use Rattle.listing.specs.Writing.{Wrote}
-use Rattle.listing.specs.Listing.{stepLine, stepLines, itemText, itemTexts, serverLine, serverLines}
+use Rattle.protocol.specs.Listing.{stepLine, stepLines, itemText, itemTexts, serverLine, serverLines}
 use Rattle.listing.proofs.Placing.{wrote-none, then}
 
 -- the lines of steps

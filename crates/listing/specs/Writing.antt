@@ -11,9 +11,6 @@ pub record Wrote (buffer : List ℕ) (at : ℕ) (text : List ℕ) (after : List 
   pub ends : end ≡ at + length text
   pub bytes : after ≡ sets buffer at text
 
--- places are far below what a number of the code can hold, with room for a number's digits: 20 hold every number of 64 bits
+-- places are far below what a number of the code can hold, with room for a number's digits
 abbrev pub far : ℕ
 far = 2 ^ 60
-
-abbrev pub digitsMost : ℕ
-digitsMost = 20

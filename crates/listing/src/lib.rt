@@ -3,12 +3,12 @@ ghost use mathlib.Core.Path.{_≡_};
 ghost use Prim.Native.Nat.{_≤_};
 ghost use lib.ListN.{length};
 ghost use lib.Seq.{sets};
-ghost use Rattle.rehearsal.specs.Runs.{writtenOf};
-ghost use Rattle.listing.specs.Listing.{listingOf};
+ghost use Rattle.protocol.specs.Runs.{writtenOf};
+ghost use Rattle.protocol.specs.Listing.{listingOf};
 ghost use Rattle.listing.specs.Longest.{listingMost};
 use lines::put_refused;
 use lines::put_run;
-use schedule::Verdict;
+use format::Verdict;
 
 mod lines;
 mod texts; // bytes, words and numbers

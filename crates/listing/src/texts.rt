@@ -2,8 +2,9 @@
 ghost use mathlib.Core.List.{[], _∷_};
 ghost use Prim.Native.Nat.{_+_, _≤_, _<_};
 ghost use lib.ListN.{length};
-ghost use Rattle.listing.specs.Writing.{Wrote, far, digitsMost};
-ghost use Rattle.listing.specs.Listing.{decimal};
+ghost use Rattle.listing.specs.Writing.{Wrote, far};
+ghost use Rattle.protocol.specs.Listing.{digitsMost};
+ghost use Rattle.protocol.specs.Listing.{decimal};
 
 // One byte.
 pub(crate) fn put_byte(text: &mut [u8], at: usize, b: u8) -> usize

@@ -17,28 +17,28 @@ use Rattle.world.specs.Roster.{goodRoster}
 use Rattle.world.specs.Outgoing.{packetAt}
 use Rattle.world.specs.Hold.{entryAt}
 use Rattle.world.specs.Boxes.{seat}
-use Rattle.rules.specs.declared.boxes.Stepped.{Stepped}
-use Rattle.rules.specs.declared.storing.Requested.{Requested}
-use Rattle.rules.specs.Answers.{answerNumber}
-use Rattle.rules.specs.Rules.{requestOf}
-use Rattle.schedule.specs.declared.kinds.Act.{Act}
-use Rattle.schedule.specs.declared.kinds.Act.the-variants as act
-use Rattle.schedule.specs.declared.kinds.Kind.{Kind}
-use Rattle.schedule.specs.declared.kinds.Kind.the-variants as kind
-use Rattle.schedule.specs.declared.kinds.Form.{Form}
-use Rattle.schedule.specs.declared.kinds.Form.the-variants.{Start, Step, Bad}
-use Rattle.schedule.specs.declared.reading.Refusal.the-variants.{TooLong, Cut, BadStart}
-use Rattle.schedule.specs.declared.reading.Read.{Read}
-use Rattle.schedule.specs.declared.reading.Read.the-variants.{Record, End}
-use Rattle.schedule.specs.declared.reading.Read.the-variants as read
-use Rattle.schedule.specs.declared.scanning.Verdict.{Verdict}
-use Rattle.schedule.specs.declared.scanning.Verdict.the-variants.{Accepted, Refused}
-use Rattle.schedule.specs.Fields.{byteAt, fourAt, bytesAt}
-use Rattle.schedule.specs.Records.{formOf, readAt, Asked, askedFrom, askedBy, askedAfter, asked}
-use Rattle.schedule.specs.Judging.{ended, scanBy, scanFrom, scanned, scheduleMost, startJudged, recordsJudged, judged}
-use Rattle.schedule.proofs.Reader.{Known, known, isRecord}
-use Rattle.rehearsal.specs.declared.boxing.Touch.{Touch}
-use Rattle.rehearsal.specs.Steps.{taken, withRequests, putBack, boxesOf, stepOf, worldAfter, answersOf}
+use Rattle.protocol.specs.declared.boxes.Stepped.{Stepped}
+use Rattle.protocol.specs.declared.boxes.Requested.{Requested}
+use Rattle.protocol.specs.Answers.{answerNumber}
+use Rattle.protocol.specs.Rules.{requestOf}
+use Rattle.format.specs.declared.kinds.Act.{Act}
+use Rattle.format.specs.declared.kinds.Act.the-variants as act
+use Rattle.format.specs.declared.kinds.Kind.{Kind}
+use Rattle.format.specs.declared.kinds.Kind.the-variants as kind
+use Rattle.format.specs.declared.kinds.Form.{Form}
+use Rattle.format.specs.declared.kinds.Form.the-variants.{Start, Step, Bad}
+use Rattle.format.specs.declared.refusal.Refusal.the-variants.{TooLong, Cut, BadStart}
+use Rattle.format.specs.declared.reading.Read.{Read}
+use Rattle.format.specs.declared.reading.Read.the-variants.{Record, End}
+use Rattle.format.specs.declared.reading.Read.the-variants as read
+use Rattle.format.specs.declared.verdict.Verdict.{Verdict}
+use Rattle.format.specs.declared.verdict.Verdict.the-variants.{Accepted, Refused}
+use Rattle.format.specs.Fields.{byteAt, fourAt, bytesAt}
+use Rattle.format.specs.Records.{formOf, readAt, Asked, askedFrom, askedBy, askedAfter, asked}
+use Rattle.format.specs.Judging.{ended, scanBy, scanFrom, scanned, scheduleMost, startJudged, recordsJudged, judged}
+use Rattle.format.proofs.Reader.{Known, known, isRecord}
+use Rattle.protocol.specs.declared.boxes.Touch.{Touch}
+use Rattle.protocol.specs.Steps.{taken, withRequests, putBack, boxesOf, stepOf, worldAfter, answersOf}
 use Rattle.rehearsal.specs.Acts.{touchBy, touchOf, actOf}
 use Rattle.rehearsal.proofs.Lenses.{lens}
 
@@ -159,75 +159,3 @@ going-end {s} {out₀} {out} {w₀} {v} {at} {k} g h =
     let a : take k out ++ [] ≡ answersOf w₀ (asked s) = rw r at (g .answers) in
     let b : take k out ≡ answersOf w₀ (asked s) = sym (append-nil (take k out)) ∙ a in
     record { all = omega arith; answers = sym (take-append-drop k out) ∙ rw (b, g .beyond); world = rw r at (g .world) }
-
--- a scan that accepts has counted the records
-count-end : (x : Read) (at k n : ℕ) → ended x at k ≡ Accepted n → n ≡ k
-count-end (Record j b next) at k n e = cc
-count-end (read.Refused why) at k n e = let z : _≡_ {A = ℕ} 0 1 = cc in omega arith
-count-end End at k n e = cc
-
-count-by : (s : List ℕ) (x : Read) (at k n : ℕ) (more : ℕ → Verdict) (rest : ℕ → List Asked) → ((next : ℕ) → more next ≡ Accepted n → n ≡ k + 1 + length (rest next))
-    → scanBy more x at k ≡ Accepted n → n ≡ k + length (askedBy rest s x)
-unfolding scanBy askedBy
-count-by s (Record j b next) at k n more rest h e = h next e ∙ omega arith
-count-by s (read.Refused why) at k n more rest h e = let z : _≡_ {A = ℕ} 0 1 = cc in omega arith
-count-by s End at k n more rest h e = let z : k ≡ n = cc in omega arith
-
-count-from : (s : List ℕ) (fuel at k n : ℕ) → scanFrom s fuel at k ≡ Accepted n → n ≡ k + length (askedAfter s fuel at)
-unfolding scanFrom askedAfter
-count-from s zero at k n e = count-end (readAt s at) at k n e ∙ omega arith
-count-from s (suc fuel) at k n e = count-by s (readAt s at) at k n _ _ (λ next d. count-from s fuel next (k + 1) n d) e
-
-scan-count : (s : List ℕ) (n : ℕ) → scanned s 3 ≡ Accepted n → n ≡ length (asked s)
-unfolding scanned
-scan-count s n e = count-from s (length s) 3 0 n e ∙ omega arith
-
-start-by : (b : ℕ) (t1 t2 t3 t4 t5 t6 t7 t8 t9 t10 : Bool)
-    → cond t1 (Start 2) (cond t2 (Step kind.Request 30) (cond t3 (Step (kind.Act act.Multicast) 2) (cond t4 (Step (kind.Act act.Arrive) 2) (cond t5 (Step (kind.Act act.Propose) 2) (cond t6 (Step (kind.Act act.Settle) 2) (cond t7 (Step (kind.Act act.Deliver) 1) (cond t8 (Step (kind.Act act.ForgePacket) 6) (cond t9 (Step (kind.Act act.ForgeSend) 35) (cond t10 (Step (kind.Act act.ForgeReceive) 36) Bad))))))))) ≡ Start b
-    → b ≡ 2
-start-by b true t2 t3 t4 t5 t6 t7 t8 t9 t10 e = cc
-start-by b false true t3 t4 t5 t6 t7 t8 t9 t10 e = let z : _≡_ {A = ℕ} 0 1 = cc in omega arith
-start-by b false false true t4 t5 t6 t7 t8 t9 t10 e = let z : _≡_ {A = ℕ} 0 1 = cc in omega arith
-start-by b false false false true t5 t6 t7 t8 t9 t10 e = let z : _≡_ {A = ℕ} 0 1 = cc in omega arith
-start-by b false false false false true t6 t7 t8 t9 t10 e = let z : _≡_ {A = ℕ} 0 1 = cc in omega arith
-start-by b false false false false false true t7 t8 t9 t10 e = let z : _≡_ {A = ℕ} 0 1 = cc in omega arith
-start-by b false false false false false false true t8 t9 t10 e = let z : _≡_ {A = ℕ} 0 1 = cc in omega arith
-start-by b false false false false false false false true t9 t10 e = let z : _≡_ {A = ℕ} 0 1 = cc in omega arith
-start-by b false false false false false false false false true t10 e = let z : _≡_ {A = ℕ} 0 1 = cc in omega arith
-start-by b false false false false false false false false false true e = let z : _≡_ {A = ℕ} 0 1 = cc in omega arith
-start-by b false false false false false false false false false false e = let z : _≡_ {A = ℕ} 0 1 = cc in omega arith
-
--- a start's body is two bytes
-start-two : (k b : ℕ) → formOf k ≡ Start b → b ≡ 2
-unfolding formOf
-start-two k b e = start-by b (eqb k 1) (eqb k 2) (eqb k 3) (eqb k 4) (eqb k 5) (eqb k 6) (eqb k 7) (eqb k 8) (eqb k 9) (eqb k 10) e
-
--- a schedule that is accepted has its records counted
-roster-count : (s : List ℕ) (n k : ℕ) (t : Bool) → must t (Refused BadStart 0) (Accepted k) ≡ Accepted n → n ≡ k
-unfolding must
-roster-count s n k true e = cc
-roster-count s n k false e = let z : _≡_ {A = ℕ} 0 1 = cc in omega arith
-
-judged-start : (s : List ℕ) (n : ℕ) (d : Verdict) → startJudged s d ≡ Accepted n → d ≡ Accepted n
-judged-start s n (Accepted k) e = ap Accepted (sym (roster-count s n k (goodRoster (record { n = byteAt s 1; faulty = byteAt s 2 })) e))
-judged-start s n (Refused why at) e = e
-
-judged-cut : (s : List ℕ) (n : ℕ) (t : Bool) → must t (Refused Cut 0) (startJudged s (scanned s 3)) ≡ Accepted n → n ≡ length (asked s)
-unfolding must
-judged-cut s n true e = scan-count s n (judged-start s n (scanned s 3) e)
-judged-cut s n false e = let z : _≡_ {A = ℕ} 0 1 = cc in omega arith
-
-judged-form : (s : List ℕ) (n : ℕ) (f : Form) → formOf (byteAt s 0) ≡ f → recordsJudged s f ≡ Accepted n → n ≡ length (asked s)
-unfolding recordsJudged
-judged-form s n (Start b) q e = let z : b ≡ 2 = start-two (byteAt s 0) b q in judged-cut s n (leb 2 (length s - 1)) (rw z at e)
-judged-form s n (Step k b) q e = let z : _≡_ {A = ℕ} 0 1 = cc in omega arith
-judged-form s n Bad q e = let z : _≡_ {A = ℕ} 0 1 = cc in omega arith
-
-judged-long : (s : List ℕ) (n : ℕ) (t : Bool) → must t (Refused TooLong 0) (recordsJudged s (formOf (byteAt s 0))) ≡ Accepted n → n ≡ length (asked s)
-unfolding must
-judged-long s n true e = judged-form s n (formOf (byteAt s 0)) refl e
-judged-long s n false e = let z : _≡_ {A = ℕ} 0 1 = cc in omega arith
-
-pub judged-count : (s : List ℕ) (n : ℕ) → judged s ≡ Accepted n → n ≡ length (asked s)
-unfolding judged
-judged-count s n e = judged-long s n (leb (length s) scheduleMost) e

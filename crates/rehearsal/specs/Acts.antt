@@ -2,7 +2,7 @@
 -- step of `Steps` again (`proofs/Lenses.antt`).
 use Prim.Native.Nat.{ℕ, _+_, _<_}
 use mathlib.Core.List.{List}
-use Rattle.digest.specs.Digest.{digestBytes}
+use Rattle.fips180.specs.Digest.{digestBytes}
 use Rattle.world.specs.declared.World.{World}
 use Rattle.world.specs.declared.roster.Roster.{Roster}
 use Rattle.world.specs.declared.outgoing.Packet.{Packet}
@@ -11,14 +11,14 @@ use Rattle.world.specs.Sizes.{servers, requestsMost}
 use Rattle.world.specs.Outgoing.{packetAt}
 use Rattle.world.specs.Hold.{entryAt}
 use Rattle.world.specs.Boxes.{outgoingOf, holdOf}
-use Rattle.rules.specs.declared.boxes.Boxes.{Boxes}
-use Rattle.rules.specs.declared.boxes.Stepped.{Stepped}
-use Rattle.rules.specs.Rules.{multicastOf, arriveOf, proposeOf, settleOf, deliverOf, forgePacketOf, forgeSendOf, forgeReceiveOf}
-use Rattle.schedule.specs.declared.kinds.Act.{Act}
-use Rattle.schedule.specs.declared.kinds.Act.the-variants.{Multicast, Arrive, Propose, Settle, Deliver, ForgePacket, ForgeSend, ForgeReceive}
-use Rattle.schedule.specs.Fields.{byteAt, twoAt, bytesAt}
-use Rattle.rehearsal.specs.declared.boxing.Touch.{Touch}
-use Rattle.rehearsal.specs.Steps.{touch}
+use Rattle.protocol.specs.declared.boxes.Boxes.{Boxes}
+use Rattle.protocol.specs.declared.boxes.Stepped.{Stepped}
+use Rattle.protocol.specs.Rules.{multicastOf, arriveOf, proposeOf, settleOf, deliverOf, forgePacketOf, forgeSendOf, forgeReceiveOf}
+use Rattle.format.specs.declared.kinds.Act.{Act}
+use Rattle.format.specs.declared.kinds.Act.the-variants.{Multicast, Arrive, Propose, Settle, Deliver, ForgePacket, ForgeSend, ForgeReceive}
+use Rattle.format.specs.Fields.{byteAt, twoAt, bytesAt}
+use Rattle.protocol.specs.declared.boxes.Touch.{Touch}
+use Rattle.protocol.specs.Steps.{touch}
 
 abbrev pub touchBy : Act → ℕ → ℕ → Packet → Entry → Touch
 touchBy Multicast x y p e = touch x x x y

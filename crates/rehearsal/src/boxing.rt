@@ -4,15 +4,16 @@ ghost use Prim.Native.Nat.{_+_, _<_, _≤_};
 ghost use lib.ListN.{length};
 ghost use Rattle.world.specs.Sizes.{servers, requestsMost};
 ghost use Rattle.world.specs.Boxes.{seat, within};
-ghost use Rattle.schedule.specs.Fields.{byteAt};
+ghost use Rattle.format.specs.Fields.{byteAt};
 ghost use Rattle.rehearsal.specs.Acts.{Seated, touchBy, actOf};
-ghost use Rattle.rules.specs.Rules.{requestOf};
-ghost use Rattle.schedule.specs.Fields.{fourAt, bytesAt};
+ghost use Rattle.protocol.specs.Rules.{requestOf};
+ghost use Rattle.format.specs.Fields.{fourAt, bytesAt};
 ghost use Rattle.world.specs.Sizes.{commandBytes};
-use rules::Boxes;
-use rules::Requested;
-use rules::Stepped;
-use schedule::Act;
+use format::Act;
+use protocol::Boxes;
+use protocol::Requested;
+use protocol::Stepped;
+use protocol::Touch;
 use schedule::byte_at;
 use schedule::command_at;
 use schedule::digest_at;
@@ -23,14 +24,6 @@ use world::Packet;
 use world::Requests;
 use world::Roster;
 use world::World;
-
-// Whose boxes a step touches.
-pub struct Touch {
-    pub server: usize,
-    pub holder: usize,
-    pub sender: usize,
-    pub slot: usize,
-}
 
 // A server's place among the boxes; the first where there is no such server.
 pub(crate) fn seat_of(server: u8) -> usize

@@ -4,10 +4,7 @@ mod running;
 mod starting;
 mod stepping;
 
-pub use boxing::Touch;
-pub use running::Ran;
 pub use running::run;
 pub use soundness::quiet;
 pub use starting::start;
-pub use stepping::Taken;
 pub use stepping::step;

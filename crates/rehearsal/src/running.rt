@@ -1,26 +1,22 @@
 // A whole run.
 ghost use mathlib.Core.Path.{_≡_};
 ghost use lib.ListN.{length};
-ghost use Rattle.rehearsal.specs.Runs.{ranOf, writtenOf};
+ghost use Rattle.protocol.specs.Runs.{ranOf, writtenOf};
 use crate::boxing::act;
 use crate::boxing::seat_of;
 use crate::boxing::store;
 use crate::boxing::touch_by;
-use rules::Boxes;
-use schedule::Kind;
-use schedule::Read;
-use schedule::Refusal;
-use schedule::Verdict;
+use format::Kind;
+use format::Read;
+use format::Refusal;
+use format::Schedule;
+use format::Verdict;
+use protocol::Boxes;
+use protocol::Ran;
 use schedule::byte_at;
 use schedule::judge;
 use schedule::read_at;
 use world::World;
-
-// A run's fate, and the world at its end: a world of zeros where it is refused.
-pub struct Ran {
-    pub verdict: Verdict,
-    pub world: World,
-}
 
 // Runs a schedule and writes one answer for each record behind the start.
 pub fn run(s: &[u8], answers: &mut [u8]) -> Ran
@@ -41,7 +37,7 @@ pub fn run(s: &[u8], answers: &mut [u8]) -> Ran
         };
     }
     let mut v = World::fresh(byte_at(s, 1), byte_at(s, 2));
-    let mut at: usize = 3;
+    let mut at: usize = Schedule::START;
     let mut k: usize = 0;
     loop {
         let Read::Record { kind, start, next } = read_at(s, at) else {

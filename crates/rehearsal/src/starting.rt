@@ -1,8 +1,8 @@
 // A start.
 ghost use mathlib.Core.Path.{_≡_};
-ghost use Rattle.rehearsal.specs.Runs.{startOf};
-use crate::stepping::Taken;
-use schedule::Refusal;
+ghost use Rattle.protocol.specs.Runs.{startOf};
+use format::Refusal;
+use protocol::Taken;
 use world::Roster;
 use world::World;
 

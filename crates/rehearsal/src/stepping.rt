@@ -2,29 +2,23 @@
 ghost use mathlib.Core.Path.{_≡_};
 ghost use Prim.Native.Nat.{_≤_};
 ghost use lib.ListN.{length};
-ghost use Rattle.schedule.specs.Records.{askedFrom};
-ghost use Rattle.schedule.specs.declared.kinds.Kind.the-variants.{Request, Act as Acting};
-ghost use Rattle.rehearsal.specs.Steps.{stepOf};
-ghost use Rattle.rehearsal.specs.Runs.{stepped};
+ghost use Rattle.format.specs.Records.{askedFrom};
+ghost use Rattle.format.specs.declared.kinds.Kind.the-variants.{Request, Act as Acting};
+ghost use Rattle.protocol.specs.Steps.{stepOf};
+ghost use Rattle.protocol.specs.Runs.{stepped};
 use crate::boxing::act;
 use crate::boxing::seat_of;
 use crate::boxing::store;
 use crate::boxing::touch_by;
-use rules::Boxes;
-use schedule::Act;
-use schedule::Kind;
-use schedule::Read;
-use schedule::Refusal;
+use format::Act;
+use format::Kind;
+use format::Read;
+use format::Refusal;
+use protocol::Boxes;
+use protocol::Taken;
 use schedule::byte_at;
 use schedule::read_at;
 use world::World;
-
-// An answer's number, and the world after.
-#[repr(C)]
-pub struct Taken {
-    pub number: u8,
-    pub world: World,
-}
 
 // The request of a record whose body starts at b, on the whole world.
 fn store_in(w: World, s: &[u8], b: usize) -> Taken

@@ -1,5 +1,5 @@
 // Prints the listing of the schedule that standard input holds.
-use schedule::Verdict;
+use format::Verdict;
 
 fn main() {
     // One byte more than a schedule may have, so that 20 can be told.

@@ -1,8 +1,6 @@
 -- Each public contract of this crate settles its answer. Assumes nothing.
 use mathlib.Core.Path.{sym, _∙_}
-use Rattle.settled.specs.Settled.{Settled}
-use Rattle.rules.proofs.answer.Answer.number.Kinds as answer-number-kinds
-use Rattle.rules.proofs.answer.Answer.number.Reads as answer-number-reads
+use Rattle.unique.specs.Unique.{Unique}
 use Rattle.rules.proofs.arrival.arrive.Kinds as arrive-kinds
 use Rattle.rules.proofs.arrival.arrive.Reads as arrive-reads
 use Rattle.rules.proofs.delivery.deliver.Kinds as deliver-kinds
@@ -22,32 +20,29 @@ use Rattle.rules.proofs.storing.request.Reads as request-reads
 use Rattle.rules.proofs.settling.settle.Kinds as settle-kinds
 use Rattle.rules.proofs.settling.settle.Reads as settle-reads
 
-pub answer-number-settled : Settled 0 answer-number-kinds.ps answer-number-kinds.r answer-number-reads.Post
-answer-number-settled κs a x y e f p q = p ∙ sym q
+pub arrive-unique : Unique 0 arrive-kinds.ps arrive-kinds.r arrive-reads.Post
+arrive-unique κs a x y e f p q = p ∙ sym q
 
-pub arrive-settled : Settled 0 arrive-kinds.ps arrive-kinds.r arrive-reads.Post
-arrive-settled κs a x y e f p q = p ∙ sym q
+pub deliver-unique : Unique 0 deliver-kinds.ps deliver-kinds.r deliver-reads.Post
+deliver-unique κs a x y e f p q = p ∙ sym q
 
-pub deliver-settled : Settled 0 deliver-kinds.ps deliver-kinds.r deliver-reads.Post
-deliver-settled κs a x y e f p q = p ∙ sym q
+pub forge-packet-unique : Unique 0 forge-packet-kinds.ps forge-packet-kinds.r forge-packet-reads.Post
+forge-packet-unique κs a x y e f p q = p ∙ sym q
 
-pub forge-packet-settled : Settled 0 forge-packet-kinds.ps forge-packet-kinds.r forge-packet-reads.Post
-forge-packet-settled κs a x y e f p q = p ∙ sym q
+pub forge-receive-unique : Unique 0 forge-receive-kinds.ps forge-receive-kinds.r forge-receive-reads.Post
+forge-receive-unique κs a x y e f p q = p ∙ sym q
 
-pub forge-receive-settled : Settled 0 forge-receive-kinds.ps forge-receive-kinds.r forge-receive-reads.Post
-forge-receive-settled κs a x y e f p q = p ∙ sym q
+pub forge-send-unique : Unique 0 forge-send-kinds.ps forge-send-kinds.r forge-send-reads.Post
+forge-send-unique κs a x y e f p q = p ∙ sym q
 
-pub forge-send-settled : Settled 0 forge-send-kinds.ps forge-send-kinds.r forge-send-reads.Post
-forge-send-settled κs a x y e f p q = p ∙ sym q
+pub multicast-unique : Unique 0 multicast-kinds.ps multicast-kinds.r multicast-reads.Post
+multicast-unique κs a x y e f p q = p ∙ sym q
 
-pub multicast-settled : Settled 0 multicast-kinds.ps multicast-kinds.r multicast-reads.Post
-multicast-settled κs a x y e f p q = p ∙ sym q
+pub propose-unique : Unique 0 propose-kinds.ps propose-kinds.r propose-reads.Post
+propose-unique κs a x y e f p q = p ∙ sym q
 
-pub propose-settled : Settled 0 propose-kinds.ps propose-kinds.r propose-reads.Post
-propose-settled κs a x y e f p q = p ∙ sym q
+pub request-unique : Unique 0 request-kinds.ps request-kinds.r request-reads.Post
+request-unique κs a x y e f p q = p ∙ sym q
 
-pub request-settled : Settled 0 request-kinds.ps request-kinds.r request-reads.Post
-request-settled κs a x y e f p q = p ∙ sym q
-
-pub settle-settled : Settled 0 settle-kinds.ps settle-kinds.r settle-reads.Post
-settle-settled κs a x y e f p q = p ∙ sym q
+pub settle-unique : Unique 0 settle-kinds.ps settle-kinds.r settle-reads.Post
+settle-unique κs a x y e f p q = p ∙ sym q

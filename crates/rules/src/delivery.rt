@@ -1,9 +1,10 @@
 // Deliver.
 ghost use mathlib.Core.Path.{_≡_};
-ghost use Rattle.rules.specs.Rules.{deliverOf};
-use crate::answer::Answer;
-use crate::boxes::Boxes;
-use crate::boxes::Stepped;
+ghost use Rattle.protocol.specs.Rules.{deliverOf};
+use crate::boxes::answer;
+use protocol::Answer;
+use protocol::Boxes;
+use protocol::Stepped;
 use search::Found;
 use world::Entry;
 use world::Item;
@@ -14,13 +15,13 @@ pub fn deliver(roster: Roster, server: u8, b: Boxes) -> Stepped
     ensures { λ r. ⌜ r ≡ deliverOf roster server b ⌝ }
 {
     if !roster.member(server) {
-        return b.answer(Answer::BadServer);
+        return answer(b, Answer::BadServer);
     }
     if roster.is_faulty(server) {
-        return b.answer(Answer::WrongSide);
+        return answer(b, Answer::WrongSide);
     }
     let Found::At(k) = b.hold.ready(b.delivered.next()) else {
-        return b.answer(Answer::Wait);
+        return answer(b, Answer::Wait);
     };
     let held = b.hold;
     let e = held.places[k];
@@ -33,5 +34,5 @@ pub fn deliver(roster: Roster, server: u8, b: Boxes) -> Stepped
     let mut v = b;
     v.hold = h;
     v.delivered = d;
-    v.answer(Answer::Done)
+    answer(v, Answer::Done)
 }

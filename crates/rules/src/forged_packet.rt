@@ -1,9 +1,10 @@
 // Forge packet.
 ghost use mathlib.Core.Path.{_≡_};
-ghost use Rattle.rules.specs.Rules.{forgePacketOf};
-use crate::answer::Answer;
-use crate::boxes::Boxes;
-use crate::boxes::Stepped;
+ghost use Rattle.protocol.specs.Rules.{forgePacketOf};
+use crate::boxes::answer;
+use protocol::Answer;
+use protocol::Boxes;
+use protocol::Stepped;
 use search::Found;
 use world::Packet;
 use world::Roster;
@@ -22,20 +23,20 @@ pub fn forge_packet(
     ensures { λ r. ⌜ r ≡ forgePacketOf roster from to sender id slot b ⌝ }
 {
     if !(roster.member(from) & roster.member(to) & roster.member(sender)) {
-        return b.answer(Answer::BadServer);
+        return answer(b, Answer::BadServer);
     }
     if !roster.is_faulty(from) {
-        return b.answer(Answer::WrongSide);
+        return answer(b, Answer::WrongSide);
     }
     if b.stored <= slot {
-        return b.answer(Answer::NoSuch);
+        return answer(b, Answer::NoSuch);
     }
     let Found::At(_) = b.outgoing.free() else {
-        return b.answer(Answer::NoRoom);
+        return answer(b, Answer::NoRoom);
     };
     let o = b.outgoing
         .post(Packet::new(to, Sending { id, sender, slot }));
     let mut v = b;
     v.outgoing = o;
-    v.answer(Answer::Done)
+    answer(v, Answer::Done)
 }

@@ -2,11 +2,13 @@
 ghost use mathlib.Core.Path.{_≡_};
 ghost use Prim.Native.Nat.{_<_};
 ghost use Rattle.world.specs.Sizes.{executionsMost};
-ghost use Rattle.rules.specs.Rules.{forgeReceiveOf, forgeReceiveTo};
-use crate::answer::Answer;
-use crate::boxes::Boxes;
-use crate::boxes::Stepped;
-use digest::Digest;
+ghost use Rattle.protocol.specs.Rules.{forgeReceiveOf, forgeReceiveTo};
+use crate::boxes::answer;
+use crate::orderer::record;
+use protocol::Answer;
+use protocol::Boxes;
+use protocol::Stepped;
+use fips180::Digest;
 use search::Found;
 use world::Roster;
 use world::has;
@@ -27,12 +29,12 @@ fn receive_to(
     let x = t.table[k];
     let known = x.digest;
     if has(x.called, server) {
-        return b.answer(Answer::Recall);
+        return answer(b, Answer::Recall);
     }
     if !same_digest(known, digest) {
-        return b.answer(Answer::WrongDigest);
+        return answer(b, Answer::WrongDigest);
     }
-    b.record(roster, server, k).answer(Answer::Done)
+    answer(record(b, roster, server, k), Answer::Done)
 }
 
 // A call at any execution, with any digest.
@@ -47,13 +49,13 @@ pub fn forge_receive(
     ensures { λ r. ⌜ r ≡ forgeReceiveOf roster server sender id digest b ⌝ }
 {
     if !(roster.member(server) & roster.member(sender)) {
-        return b.answer(Answer::BadServer);
+        return answer(b, Answer::BadServer);
     }
     if !roster.is_faulty(server) {
-        return b.answer(Answer::WrongSide);
+        return answer(b, Answer::WrongSide);
     }
     let Found::At(k) = b.executions.find(id) else {
-        return b.answer(Answer::Unknown);
+        return answer(b, Answer::Unknown);
     };
     receive_to(roster, server, digest, k, b)
 }

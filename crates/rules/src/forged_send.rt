@@ -1,10 +1,12 @@
 // Forge send.
 ghost use mathlib.Core.Path.{_≡_};
-ghost use Rattle.rules.specs.Rules.{forgeSendOf};
-use crate::answer::Answer;
-use crate::boxes::Boxes;
-use crate::boxes::Stepped;
-use digest::Digest;
+ghost use Rattle.protocol.specs.Rules.{forgeSendOf};
+use crate::boxes::answer;
+use crate::orderer::make;
+use protocol::Answer;
+use protocol::Boxes;
+use protocol::Stepped;
+use fips180::Digest;
 use search::Found;
 use world::Executions;
 use world::Roster;
@@ -20,16 +22,16 @@ pub fn forge_send(
     ensures { λ r. ⌜ r ≡ forgeSendOf roster server id digest b ⌝ }
 {
     if !roster.member(server) {
-        return b.answer(Answer::BadServer);
+        return answer(b, Answer::BadServer);
     }
     if !roster.is_faulty(server) {
-        return b.answer(Answer::WrongSide);
+        return answer(b, Answer::WrongSide);
     }
     let Found::Nothing = b.executions.find(id) else {
-        return b.answer(Answer::Recall);
+        return answer(b, Answer::Recall);
     };
     if Executions::MOST <= b.executions.count as usize {
-        return b.answer(Answer::Quota);
+        return answer(b, Answer::Quota);
     }
-    b.make(roster, server, id, digest).answer(Answer::Done)
+    answer(make(b, roster, server, id, digest), Answer::Done)
 }

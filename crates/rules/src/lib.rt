@@ -1,5 +1,4 @@
 // The rules of document 01's "Steps, with tests in order": what each kind of step does to the boxes that it touches.
-mod answer;
 mod boxes;
 mod holding; // an entry freed or raised
 mod orderer; // an execution made, a call recorded
@@ -13,10 +12,7 @@ mod sending;
 mod settling;
 mod storing;
 
-pub use answer::Answer;
 pub use arrival::arrive;
-pub use boxes::Boxes;
-pub use boxes::Stepped;
 pub use delivery::deliver;
 pub use forged_packet::forge_packet;
 pub use forged_receive::forge_receive;
@@ -24,5 +20,4 @@ pub use forged_send::forge_send;
 pub use proposal::propose;
 pub use sending::multicast;
 pub use settling::settle;
-pub use storing::Requested;
 pub use storing::request;

@@ -2,10 +2,14 @@
 ghost use mathlib.Core.Path.{_≡_};
 ghost use Prim.Native.Nat.{_<_};
 ghost use Rattle.world.specs.Sizes.{executionsMost};
-ghost use Rattle.rules.specs.Rules.{proposeOf, proposeTo};
-use crate::answer::Answer;
-use crate::boxes::Boxes;
-use crate::boxes::Stepped;
+ghost use Rattle.protocol.specs.Rules.{proposeOf, proposeTo};
+use crate::boxes::answer;
+use crate::holding::drop_entry;
+use crate::holding::raise;
+use crate::orderer::record;
+use protocol::Answer;
+use protocol::Boxes;
+use protocol::Stepped;
 use search::Found;
 use world::Entry;
 use world::Roster;
@@ -20,19 +24,17 @@ fn propose_to(roster: Roster, server: u8, place: u8, k: usize, b: Boxes) -> Step
     let t = b.executions;
     let x = t.table[k];
     if has(x.called, server) {
-        return b.drop_entry(place);
+        return drop_entry(b, place);
     }
     if !has(b.request.seals, server) {
-        return b.raise(place, Entry::TWO, 0).answer(Answer::Done);
+        return answer(raise(b, place, Entry::TWO, 0), Answer::Done);
     }
     let own = b.request.digest;
     let known = x.digest;
     if !same_digest(own, known) {
-        return b.drop_entry(place);
+        return drop_entry(b, place);
     }
-    b.raise(place, Entry::TWO, 0)
-        .record(roster, server, k)
-        .answer(Answer::Done)
+    answer(record(raise(b, place, Entry::TWO, 0), roster, server, k), Answer::Done)
 }
 
 // A correct server tells the orderer of an entry at stage one.
@@ -40,17 +42,17 @@ pub fn propose(roster: Roster, server: u8, place: u8, b: Boxes) -> Stepped
     ensures { λ r. ⌜ r ≡ proposeOf roster server place b ⌝ }
 {
     if !roster.member(server) {
-        return b.answer(Answer::BadServer);
+        return answer(b, Answer::BadServer);
     }
     if roster.is_faulty(server) {
-        return b.answer(Answer::WrongSide);
+        return answer(b, Answer::WrongSide);
     }
     let e = b.hold.at(place);
     if e.stage != Entry::ONE {
-        return b.answer(Answer::NoSuch);
+        return answer(b, Answer::NoSuch);
     }
     let Found::At(k) = b.executions.find(e.id) else {
-        return b.answer(Answer::Wait);
+        return answer(b, Answer::Wait);
     };
     propose_to(roster, server, place, k, b)
 }

@@ -2,10 +2,12 @@
 ghost use mathlib.Core.Path.{_≡_};
 ghost use Prim.Native.Nat.{_<_};
 ghost use Rattle.world.specs.Sizes.{executionsMost};
-ghost use Rattle.rules.specs.Rules.{roomy, multicastOf, multicastDone};
-use crate::answer::Answer;
-use crate::boxes::Boxes;
-use crate::boxes::Stepped;
+ghost use Rattle.protocol.specs.Rules.{roomy, multicastOf, multicastDone};
+use crate::boxes::answer;
+use crate::orderer::make;
+use protocol::Answer;
+use protocol::Boxes;
+use protocol::Stepped;
 use world::Entry;
 use world::Executions;
 use world::Roster;
@@ -34,7 +36,7 @@ fn cast(roster: Roster, server: u8, slot: u8, b: Boxes) -> Boxes
             slot,
         },
     );
-    let mut v = b.make(roster, server, id, digest);
+    let mut v = make(b, roster, server, id, digest);
     v.hold = h;
     v.outgoing = o;
     v
@@ -53,22 +55,22 @@ pub fn multicast(roster: Roster, server: u8, slot: u8, b: Boxes) -> Stepped
     ensures { λ r. ⌜ r ≡ multicastOf roster server slot b ⌝ }
 {
     if !roster.member(server) {
-        return b.answer(Answer::BadServer);
+        return answer(b, Answer::BadServer);
     }
     if roster.is_faulty(server) {
-        return b.answer(Answer::WrongSide);
+        return answer(b, Answer::WrongSide);
     }
     if b.stored <= slot {
-        return b.answer(Answer::NoSuch);
+        return answer(b, Answer::NoSuch);
     }
     if !has(b.request.seals, server) {
-        return b.answer(Answer::Dismissed);
+        return answer(b, Answer::Dismissed);
     }
     if Executions::MOST <= b.executions.count as usize {
-        return b.answer(Answer::Quota);
+        return answer(b, Answer::Quota);
     }
     if !has_room(roster, server, b) {
-        return b.answer(Answer::NoRoom);
+        return answer(b, Answer::NoRoom);
     }
-    cast(roster, server, slot, b).answer(Answer::Done)
+    answer(cast(roster, server, slot, b), Answer::Done)
 }

@@ -2,10 +2,13 @@
 ghost use mathlib.Core.Path.{_≡_};
 ghost use Prim.Native.Nat.{_<_};
 ghost use Rattle.world.specs.Sizes.{executionsMost};
-ghost use Rattle.rules.specs.Rules.{settleOf, settleTo};
-use crate::answer::Answer;
-use crate::boxes::Boxes;
-use crate::boxes::Stepped;
+ghost use Rattle.protocol.specs.Rules.{settleOf, settleTo};
+use crate::boxes::answer;
+use crate::holding::drop_entry;
+use crate::holding::raise;
+use protocol::Answer;
+use protocol::Boxes;
+use protocol::Stepped;
 use search::Found;
 use world::Entry;
 use world::Execution;
@@ -22,19 +25,19 @@ fn settle_to(roster: Roster, server: u8, place: u8, k: usize, b: Boxes) -> Stepp
     let t = b.executions;
     let x = t.table[k];
     if x.number == Execution::UNNUMBERED {
-        return b.answer(Answer::Wait);
+        return answer(b, Answer::Wait);
     }
     let own = b.request.digest;
     let known = x.digest;
     if !same_digest(own, known) {
-        return b.drop_entry(place);
+        return drop_entry(b, place);
     }
     let e = b.hold.at(place);
     if e.sender == server {
-        return b.raise(place, Entry::THREE, x.number).answer(Answer::Done);
+        return answer(raise(b, place, Entry::THREE, x.number), Answer::Done);
     }
     if b.outgoing.room() < recipients(roster, x.mask, server) {
-        return b.answer(Answer::NoRoom);
+        return answer(b, Answer::NoRoom);
     }
     let o = b.outgoing.send(
         roster,
@@ -46,9 +49,9 @@ fn settle_to(roster: Roster, server: u8, place: u8, k: usize, b: Boxes) -> Stepp
             slot: e.slot,
         },
     );
-    let mut v = b.raise(place, Entry::THREE, x.number);
+    let mut v = raise(b, place, Entry::THREE, x.number);
     v.outgoing = o;
-    v.answer(Answer::Done)
+    answer(v, Answer::Done)
 }
 
 // A correct server takes over the number of an entry at stage two, and forwards it.
@@ -56,17 +59,17 @@ pub fn settle(roster: Roster, server: u8, place: u8, b: Boxes) -> Stepped
     ensures { λ r. ⌜ r ≡ settleOf roster server place b ⌝ }
 {
     if !roster.member(server) {
-        return b.answer(Answer::BadServer);
+        return answer(b, Answer::BadServer);
     }
     if roster.is_faulty(server) {
-        return b.answer(Answer::WrongSide);
+        return answer(b, Answer::WrongSide);
     }
     let e = b.hold.at(place);
     if e.stage != Entry::TWO {
-        return b.answer(Answer::NoSuch);
+        return answer(b, Answer::NoSuch);
     }
     let Found::At(k) = b.executions.find(e.id) else {
-        return b.answer(Answer::Wait);
+        return answer(b, Answer::Wait);
     };
     settle_to(roster, server, place, k, b)
 }

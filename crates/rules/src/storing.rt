@@ -1,15 +1,11 @@
 // Request: a client's request is stored.
 ghost use mathlib.Core.Path.{_≡_};
-ghost use Rattle.rules.specs.Rules.{requestFrom, requestOf};
-use crate::answer::Answer;
+ghost use Rattle.protocol.specs.Rules.{requestFrom, requestOf};
+use protocol::Answer;
+use protocol::Requested;
 use world::Request;
 use world::Requests;
 use world::Roster;
-
-pub struct Requested {
-    pub answer: Answer,
-    pub requests: Requests,
-}
 
 // The request that the fields make, with its digest.
 fn sealed(client: u8, number: u32, seals: u8, command: [u8; Request::COMMAND]) -> Request
@@ -20,7 +16,7 @@ fn sealed(client: u8, number: u32, seals: u8, command: [u8; Request::COMMAND]) -
         client,
         seals,
         command,
-        digest: [0; digest::Digest::BYTES],
+        digest: [0; fips180::Digest::BYTES],
     };
     let bytes = bare.bytes();
     let digest = digest::sha256(&bytes).bytes;

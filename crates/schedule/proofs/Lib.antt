@@ -1,3 +1,2 @@
 pub mod Past
-pub mod Reader
 pub mod Unique

@@ -5,9 +5,9 @@ use Prim.Native.Nat.{ℕ, zero, suc, _+_, _≤_, _<_}
 use native.Mathlib.Numerals.{add-one}
 use native.Mathlib.Omega.{arith}
 use lib.ListN.{length, take, set, replicate}
-use Rattle.digest.proofs.Filling.{stored}
-use Rattle.world.proofs.Lists.{getD-out}
-use Rattle.schedule.specs.Fields.{byteAt, twoAt, fourAt, bytesAt}
+use Rattle.search.proofs.Filling.{stored}
+use Rattle.search.proofs.Lists.{getD-out}
+use Rattle.format.specs.Fields.{byteAt, twoAt, fourAt, bytesAt}
 
 pub two-past : (s : List ℕ) (at : ℕ) → length s ≤ at → 0 ≡ twoAt s at
 two-past s at h = rw (getD-out s at 0 h, getD-out s (at + 1) 0 (omega arith))

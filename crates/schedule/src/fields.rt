@@ -1,10 +1,10 @@
 // The fields of a record: bytes and big-endian numbers at a place of the schedule. Past its end every byte reads as 0.
 ghost use mathlib.Core.Path.{_≡_};
 ghost use Prim.Native.Nat.{_<_};
-ghost use Rattle.digest.specs.Digest.{digestBytes};
+ghost use Rattle.fips180.specs.Digest.{digestBytes};
 ghost use Rattle.world.specs.Sizes.{commandBytes};
-ghost use Rattle.schedule.specs.Fields.{byteAt, twoAt, fourAt, bytesAt};
-use digest::Digest;
+ghost use Rattle.format.specs.Fields.{byteAt, twoAt, fourAt, bytesAt};
+use fips180::Digest;
 use world::Request;
 
 // One byte.

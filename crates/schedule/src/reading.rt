@@ -1,52 +1,10 @@
 // The record reader.
 ghost use mathlib.Core.Path.{_≡_};
-ghost use Rattle.schedule.specs.Judging.{refusalNumber};
-ghost use Rattle.schedule.specs.Records.{readAt};
-use crate::kinds::Form;
-use crate::kinds::Kind;
+ghost use Rattle.format.specs.Records.{readAt};
 use crate::kinds::form_of;
-
-// Why a schedule, a start or a single step is refused.
-pub enum Refusal {
-    TooLong,
-    NoStart,
-    BadKind,
-    SecondStart,
-    Cut,
-    BadStart,
-    OutSmall,
-    BadWorld,
-}
-
-// What stands at an offset behind the start.
-pub enum Read {
-    // A whole record: where its body starts, and where the next record does.
-    Record {
-        kind: Kind,
-        start: usize,
-        next: usize,
-    },
-    Refused(Refusal),
-    End,
-}
-
-impl Refusal {
-    // The number that document 01 gives it.
-    pub fn number(self) -> u8
-        ensures { λ r. ⌜ r ≡ refusalNumber self ⌝ }
-    {
-        match self {
-            Refusal::TooLong => 20,
-            Refusal::NoStart => 21,
-            Refusal::BadKind => 22,
-            Refusal::SecondStart => 23,
-            Refusal::Cut => 24,
-            Refusal::BadStart => 25,
-            Refusal::OutSmall => 26,
-            Refusal::BadWorld => 27,
-        }
-    }
-}
+use format::Form;
+use format::Read;
+use format::Refusal;
 
 // The record at an offset behind the start, or why it is none.
 pub fn read_at(s: &[u8], at: usize) -> Read

@@ -2,25 +2,16 @@
 ghost use mathlib.Core.Path.{_≡_};
 ghost use Prim.Native.Nat.{_≤_};
 ghost use lib.ListN.{length};
-ghost use Rattle.schedule.specs.Judging.{scanned, ended, judged};
+ghost use Rattle.format.specs.Judging.{scanned, ended, judged};
 use crate::fields::byte_at;
-use crate::kinds::Form;
 use crate::kinds::form_of;
-use crate::reading::Read;
-use crate::reading::Refusal;
 use crate::reading::read_at;
+use format::Form;
+use format::Read;
+use format::Refusal;
+use format::Schedule;
+use format::Verdict;
 use world::Roster;
-
-// A schedule's fate: how many records it has behind the start, or why it is refused, and the offset.
-pub enum Verdict {
-    Accepted(usize),
-    Refused(Refusal, usize),
-}
-
-impl Verdict {
-    // The most bytes of a schedule.
-    pub const MOST: usize = 32768;
-}
 
 // What it means that no record stands at an offset behind k records.
 fn end(read: Read, at: usize, k: usize) -> Verdict
@@ -63,7 +54,7 @@ fn scan(s: &[u8], from: usize) -> Verdict
 pub fn judge(s: &[u8]) -> Verdict
     ensures { λ r. ⌜ r ≡ judged (now (s .entry)) ⌝ }
 {
-    if Verdict::MOST < s.len() {
+    if Schedule::MOST < s.len() {
         return Verdict::Refused(Refusal::TooLong, 0);
     }
     if s.len() == 0 {

@@ -7,6 +7,7 @@ use native.Mathlib.Numerals.{add-one}
 use Rattle.search.specs.declared.Found.{Found}
 use Rattle.search.specs.declared.Found.the-variants.{At, Nothing}
 use Rattle.search.specs.Search.{firstFrom, first, isFound, every, count}
+use Rattle.search.proofs.Booleans.{not-out, not-no}
 
 first-here : (t : ℕ → Bool) (at n : ℕ) → t at ≡ true → firstFrom t at (suc n) ≡ At at
 unfolding firstFrom
@@ -78,37 +79,28 @@ counted-yes t k n m e y q = q ∙ ap (λ (x : ℕ). x + 1) e ∙ sym (count-yes 
 pub counted-no : (t : ℕ → Bool) (k n m : ℕ) → n ≡ count t k → t k ≡ false → m ≡ n → m ≡ count t (k + 1)
 counted-no t k n m e y q = q ∙ e ∙ sym (count-no t k y)
 
--- what a test of the opposite says
-pub not-yes : (b : Bool) → not b ≡ true → b ≡ false
-not-yes true e = sym e
-not-yes false e = refl
-
-pub not-no : (b : Bool) → not b ≡ false → b ≡ true
-not-no true e = refl
-not-no false e = sym e
-
 -- what a search for a place at which the test fails knows: it holds at each of the k places passed
-pub record Kept (t : ℕ → Bool) (n k : ℕ) : Type 0 where
+pub record Held (t : ℕ → Bool) (n k : ℕ) : Type 0 where
   pub passed : Passed (λ (i : ℕ). not (t i)) n k
 
-pub kept-none : (t : ℕ → Bool) (n : ℕ) → Kept t n 0
-kept-none t n = record { passed = passed-none _ n }
+pub held-none : (t : ℕ → Bool) (n : ℕ) → Held t n 0
+held-none t n = record { passed = passed-none _ n }
 
-pub kept-more : (t : ℕ → Bool) (n k : ℕ) → k < n → t k ≡ true → Kept t n k → Kept t n (k + 1)
-kept-more t n k p e q = record { passed = passed-more _ n k p (ap not e) (q .passed) }
+pub held-more : (t : ℕ → Bool) (n k : ℕ) → k < n → t k ≡ true → Held t n k → Held t n (k + 1)
+held-more t n k p e q = record { passed = passed-more _ n k p (ap not e) (q .passed) }
 
-pub kept-not : (t : ℕ → Bool) (n k : ℕ) → k < n → t k ≡ false → Kept t n k → false ≡ every t n
-kept-not t n k p e q = ap (λ (f : Found). not (isFound f)) (passed-here _ n k p (ap not e) (q .passed))
+pub held-not : (t : ℕ → Bool) (n k : ℕ) → k < n → t k ≡ false → Held t n k → false ≡ every t n
+held-not t n k p e q = ap (λ (f : Found). not (isFound f)) (passed-here _ n k p (ap not e) (q .passed))
 
-pub kept-all : (t : ℕ → Bool) (n k : ℕ) → k ≡ n → Kept t n k → true ≡ every t n
-kept-all t n k p q = ap (λ (f : Found). not (isFound f)) (passed-all _ n k p (q .passed))
+pub held-all : (t : ℕ → Bool) (n k : ℕ) → k ≡ n → Held t n k → true ≡ every t n
+held-all t n k p q = ap (λ (f : Found). not (isFound f)) (passed-all _ n k p (q .passed))
 
 -- the same turns in a loop that is left where the opposite of the test's value holds
-pub kept-tested : (t : ℕ → Bool) (n k : ℕ) (b : Bool) → k < n → b ≡ t k → not b ≡ false → Kept t n k → Kept t n (k + 1)
-kept-tested t n k b p e y q = kept-more t n k p (sym e ∙ not-no b y) q
+pub held-tested : (t : ℕ → Bool) (n k : ℕ) (b : Bool) → k < n → b ≡ t k → not b ≡ false → Held t n k → Held t n (k + 1)
+held-tested t n k b p e y q = held-more t n k p (sym e ∙ not-no b y) q
 
-pub kept-failed : (t : ℕ → Bool) (n k : ℕ) (b : Bool) → k < n → b ≡ t k → not b ≡ true → Kept t n k → false ≡ every t n
-kept-failed t n k b p e y q = kept-not t n k p (sym e ∙ not-yes b y) q
+pub held-failed : (t : ℕ → Bool) (n k : ℕ) (b : Bool) → k < n → b ≡ t k → not b ≡ true → Held t n k → false ≡ every t n
+held-failed t n k b p e y q = held-not t n k p (sym e ∙ not-out b y) q
 
 -- two tests that agree at the n places have the same count
 pub count-same : (t u : ℕ → Bool) (n : ℕ) → ((i : ℕ) → i < n → t i ≡ u i) → count t n ≡ count u n

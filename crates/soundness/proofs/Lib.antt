@@ -1,4 +1,3 @@
 pub mod Typed
-pub mod Seats
 pub mod Filled
 pub mod Unique

@@ -6,7 +6,7 @@ use borrow.Author.Needs.{length-unmapped}
 use denote.Shadow.{shadow}
 use denote.RattleType.{owns, Valss}
 use denote.Struct.Declared.{shape}
-use Rattle.digest.specs.Digest.{digestBytes}
+use Rattle.fips180.specs.Digest.{digestBytes}
 use Rattle.world.specs.declared.request.Request.{Request}
 use Rattle.world.specs.declared.execution.Execution.{Execution}
 use Rattle.world.proofs.request.Request as request-of

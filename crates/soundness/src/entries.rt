@@ -1,6 +1,6 @@
 // The entries that one server holds in a sound world.
 ghost use mathlib.Core.Path.{_≡_};
-ghost use Rattle.soundness.specs.Sound.{stageSound, entrySound, holdSound};
+ghost use Rattle.protocol.specs.Sound.{stageSound, entrySound, holdSound};
 use crate::naming::has_execution;
 use crate::naming::names;
 use crate::naming::seat;

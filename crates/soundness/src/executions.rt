@@ -4,7 +4,7 @@ ghost use Prim.Native.Nat.{ℕ, _<_, _≤_};
 ghost use Rattle.search.specs.Search.{every};
 ghost use Rattle.world.specs.Executions.{executionAt};
 ghost use Rattle.world.specs.Sizes.{executionsMost};
-ghost use Rattle.soundness.specs.Sound.{liesWithin, masksSound, orderSound, executionSound, placeSound, newId, executionsSound};
+ghost use Rattle.protocol.specs.Sound.{liesWithin, masksSound, orderSound, executionSound, placeSound, newId, executionsSound};
 use crate::naming::is_correct;
 use crate::zeros::zero_execution;
 use world::Execution;

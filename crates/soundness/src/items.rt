@@ -4,7 +4,7 @@ ghost use Prim.Native.Nat.{ℕ};
 ghost use Rattle.search.specs.Search.{every};
 ghost use Rattle.world.specs.Boxes.{itemAt};
 ghost use Rattle.world.specs.Sizes.{deliveredMost};
-ghost use Rattle.soundness.specs.Sound.{itemSound, deliveredSound};
+ghost use Rattle.protocol.specs.Sound.{itemSound, deliveredSound};
 use crate::naming::names;
 use crate::zeros::zero_item;
 use world::Delivered;

@@ -1,7 +1,7 @@
 // What may be asked of a world: whether it is sound, and whether it is quiet.
 ghost use mathlib.Core.Path.{_≡_};
-ghost use Rattle.soundness.specs.Quiet.{quiet};
-ghost use Rattle.soundness.specs.Sound.{sound};
+ghost use Rattle.protocol.specs.Quiet.{quiet};
+ghost use Rattle.protocol.specs.Sound.{sound};
 
 mod entries;
 mod executions;

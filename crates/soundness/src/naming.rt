@@ -3,7 +3,7 @@ ghost use mathlib.Core.Path.{_≡_};
 ghost use Rattle.search.specs.Search.{isFound};
 ghost use Rattle.world.specs.Boxes.{seat};
 ghost use Rattle.world.specs.Roster.{correct};
-ghost use Rattle.soundness.specs.Names.{names, ownExecution};
+ghost use Rattle.protocol.specs.Names.{names, ownExecution};
 use search::Found;
 use world::Entry;
 use world::Executions;

@@ -5,7 +5,7 @@ ghost use lib.Dec.{eqb};
 ghost use lib.ListN.{getD};
 ghost use Rattle.search.specs.Search.{count};
 ghost use Rattle.world.specs.Sizes.{deliveredMost};
-ghost use Rattle.soundness.specs.Sound.{numberAt, numbersSound};
+ghost use Rattle.protocol.specs.Sound.{numberAt, numbersSound};
 use world::Delivered;
 use world::Executions;
 use world::World;

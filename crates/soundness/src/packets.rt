@@ -1,6 +1,6 @@
 // The packets of one origin in a sound world.
 ghost use mathlib.Core.Path.{_≡_};
-ghost use Rattle.soundness.specs.Sound.{packetSound, outgoingSound};
+ghost use Rattle.protocol.specs.Sound.{packetSound, outgoingSound};
 use crate::naming::names;
 use crate::zeros::zero_packet;
 use world::Outgoing;

@@ -1,11 +1,11 @@
 // The stored requests of a sound world.
 ghost use mathlib.Core.Path.{_≡_};
 ghost use Prim.Native.Nat.{ℕ, _<_, _≤_};
-ghost use Rattle.digest.specs.Sha256.{digestOf};
+ghost use Rattle.fips180.specs.Sha256.{digestOf};
 ghost use Rattle.search.specs.Search.{every};
 ghost use Rattle.world.specs.Requests.{requestAt, requestBytes, sameDigest};
 ghost use Rattle.world.specs.Sizes.{requestsMost};
-ghost use Rattle.soundness.specs.Sound.{storedSound, slotSound, newDigest, requestsSound};
+ghost use Rattle.protocol.specs.Sound.{storedSound, slotSound, newDigest, requestsSound};
 use crate::zeros::zero_request;
 use world::Request;
 use world::Requests;

@@ -1,6 +1,6 @@
 // The boxes of the servers in a sound world.
 ghost use mathlib.Core.Path.{_≡_};
-ghost use Rattle.soundness.specs.Sound.{serversSound};
+ghost use Rattle.protocol.specs.Sound.{serversSound};
 use crate::entries::hold_sound;
 use crate::executions::executions_sound;
 use crate::items::delivered_sound;

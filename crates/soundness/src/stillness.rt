@@ -2,8 +2,8 @@
 ghost use mathlib.Core.Path.{_≡_};
 ghost use mathlib.Core.Bool.{not, _&&_, _||_};
 ghost use Rattle.world.specs.Roster.{correct};
-ghost use Rattle.soundness.specs.Names.{ownExecution};
-ghost use Rattle.soundness.specs.Quiet.{outgoingQuiet, isNumbered, stirs, holdQuiet};
+ghost use Rattle.protocol.specs.Names.{ownExecution};
+ghost use Rattle.protocol.specs.Quiet.{outgoingQuiet, isNumbered, stirs, holdQuiet};
 use crate::naming::has_execution;
 use crate::naming::is_correct;
 use crate::naming::own_execution;

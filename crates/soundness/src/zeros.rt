@@ -1,7 +1,7 @@
 // "All zeros": what a free or unused place holds.
 ghost use mathlib.Core.Path.{_≡_};
 ghost use lib.ListN.{length};
-ghost use Rattle.soundness.specs.Zeros.{zeroBytes, zeroRequest, zeroExecution, zeroPacket, zeroEntry, zeroItem};
+ghost use Rattle.protocol.specs.Zeros.{zeroBytes, zeroRequest, zeroExecution, zeroPacket, zeroEntry, zeroItem};
 use world::Entry;
 use world::Execution;
 use world::Item;

@@ -6,7 +6,7 @@ use native.Mathlib.Numerals.{add-one}
 use native.Mathlib.Omega.{arith}
 use lib.ListN.{length, getD, take, set}
 use lib.Seq.{take-suc}
-use Rattle.digest.proofs.Filling.{stored}
+use Rattle.search.proofs.Filling.{stored}
 
 -- one more of the bytes l behind the head h, which is n long
 pub more-behind : (b h l : List ℕ) (n i : ℕ) → n + i < length b → i < length l → take (n + i) b ≡ h ++ take i l

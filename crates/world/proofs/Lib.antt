@@ -1,6 +1,6 @@
 pub mod Bits
 pub mod Typed
-pub mod Lists
+pub mod Seats
 pub mod Sends
 pub mod Bytes
 pub mod Unique

@@ -1,6 +1,6 @@
 -- Each public contract of this crate settles its answer. Assumes nothing.
 use mathlib.Core.Path.{sym, _∙_}
-use Rattle.settled.specs.Settled.{Settled}
+use Rattle.unique.specs.Unique.{Unique}
 use Rattle.world.proofs.delivered.Delivered.append.Kinds as delivered-append-kinds
 use Rattle.world.proofs.delivered.Delivered.append.Reads as delivered-append-reads
 use Rattle.world.proofs.delivered.Delivered.fresh.Kinds as delivered-fresh-kinds
@@ -94,140 +94,140 @@ use Rattle.world.proofs.request.same_digest.Reads as same-digest-reads
 use Rattle.world.proofs.World.fresh.Kinds as world-fresh-kinds
 use Rattle.world.proofs.World.fresh.Reads as world-fresh-reads
 
-pub delivered-append-settled : Settled 0 delivered-append-kinds.ps delivered-append-kinds.r delivered-append-reads.Post
-delivered-append-settled κs a x y e f p q = p ∙ sym q
+pub delivered-append-unique : Unique 0 delivered-append-kinds.ps delivered-append-kinds.r delivered-append-reads.Post
+delivered-append-unique κs a x y e f p q = p ∙ sym q
 
-pub delivered-fresh-settled : Settled 0 delivered-fresh-kinds.ps delivered-fresh-kinds.r delivered-fresh-reads.Post
-delivered-fresh-settled κs a x y e f p q = p ∙ sym q
+pub delivered-fresh-unique : Unique 0 delivered-fresh-kinds.ps delivered-fresh-kinds.r delivered-fresh-reads.Post
+delivered-fresh-unique κs a x y e f p q = p ∙ sym q
 
-pub delivered-next-settled : Settled 0 delivered-next-kinds.ps delivered-next-kinds.r delivered-next-reads.Post
-delivered-next-settled κs a x y e f p q = p ∙ sym q
+pub delivered-next-unique : Unique 0 delivered-next-kinds.ps delivered-next-kinds.r delivered-next-reads.Post
+delivered-next-unique κs a x y e f p q = p ∙ sym q
 
-pub entry-free-settled : Settled 0 entry-free-kinds.ps entry-free-kinds.r entry-free-reads.Post
-entry-free-settled κs a x y e f p q = p ∙ sym q
+pub entry-free-unique : Unique 0 entry-free-kinds.ps entry-free-kinds.r entry-free-reads.Post
+entry-free-unique κs a x y e f p q = p ∙ sym q
 
-pub entry-is-of-settled : Settled 0 entry-is-of-kinds.ps entry-is-of-kinds.r entry-is-of-reads.Post
-entry-is-of-settled κs a x y e f p q = p ∙ sym q
+pub entry-is-of-unique : Unique 0 entry-is-of-kinds.ps entry-is-of-kinds.r entry-is-of-reads.Post
+entry-is-of-unique κs a x y e f p q = p ∙ sym q
 
-pub entry-is-ready-settled : Settled 0 entry-is-ready-kinds.ps entry-is-ready-kinds.r entry-is-ready-reads.Post
-entry-is-ready-settled κs a x y e f p q = p ∙ sym q
+pub entry-is-ready-unique : Unique 0 entry-is-ready-kinds.ps entry-is-ready-kinds.r entry-is-ready-reads.Post
+entry-is-ready-unique κs a x y e f p q = p ∙ sym q
 
-pub entry-new-settled : Settled 0 entry-new-kinds.ps entry-new-kinds.r entry-new-reads.Post
-entry-new-settled κs a x y e f p q = p ∙ sym q
+pub entry-new-unique : Unique 0 entry-new-kinds.ps entry-new-kinds.r entry-new-reads.Post
+entry-new-unique κs a x y e f p q = p ∙ sym q
 
-pub execution-call-settled : Settled 0 execution-call-kinds.ps execution-call-kinds.r execution-call-reads.Post
-execution-call-settled κs a x y e f p q = p ∙ sym q
+pub execution-call-unique : Unique 0 execution-call-kinds.ps execution-call-kinds.r execution-call-reads.Post
+execution-call-unique κs a x y e f p q = p ∙ sym q
 
-pub execution-open-settled : Settled 0 execution-open-kinds.ps execution-open-kinds.r execution-open-reads.Post
-execution-open-settled κs a x y e f p q = p ∙ sym q
+pub execution-open-unique : Unique 0 execution-open-kinds.ps execution-open-kinds.r execution-open-reads.Post
+execution-open-unique κs a x y e f p q = p ∙ sym q
 
-pub execution-order-settled : Settled 0 execution-order-kinds.ps execution-order-kinds.r execution-order-reads.Post
-execution-order-settled κs a x y e f p q = p ∙ sym q
+pub execution-order-unique : Unique 0 execution-order-kinds.ps execution-order-kinds.r execution-order-reads.Post
+execution-order-unique κs a x y e f p q = p ∙ sym q
 
-pub execution-unused-settled : Settled 0 execution-unused-kinds.ps execution-unused-kinds.r execution-unused-reads.Post
-execution-unused-settled κs a x y e f p q = p ∙ sym q
+pub execution-unused-unique : Unique 0 execution-unused-kinds.ps execution-unused-kinds.r execution-unused-reads.Post
+execution-unused-unique κs a x y e f p q = p ∙ sym q
 
-pub executions-find-settled : Settled 0 executions-find-kinds.ps executions-find-kinds.r executions-find-reads.Post
-executions-find-settled κs a x y e f p q = p ∙ sym q
+pub executions-find-unique : Unique 0 executions-find-kinds.ps executions-find-kinds.r executions-find-reads.Post
+executions-find-unique κs a x y e f p q = p ∙ sym q
 
-pub executions-fresh-settled : Settled 0 executions-fresh-kinds.ps executions-fresh-kinds.r executions-fresh-reads.Post
-executions-fresh-settled κs a x y e f p q = p ∙ sym q
+pub executions-fresh-unique : Unique 0 executions-fresh-kinds.ps executions-fresh-kinds.r executions-fresh-reads.Post
+executions-fresh-unique κs a x y e f p q = p ∙ sym q
 
-pub has-settled : Settled 0 has-kinds.ps has-kinds.r has-reads.Post
-has-settled κs a x y e f p q = p ∙ sym q
+pub has-unique : Unique 0 has-kinds.ps has-kinds.r has-reads.Post
+has-unique κs a x y e f p q = p ∙ sym q
 
-pub hold-at-settled : Settled 0 hold-at-kinds.ps hold-at-kinds.r hold-at-reads.Post
-hold-at-settled κs a x y e f p q = p ∙ sym q
+pub hold-at-unique : Unique 0 hold-at-kinds.ps hold-at-kinds.r hold-at-reads.Post
+hold-at-unique κs a x y e f p q = p ∙ sym q
 
-pub hold-free-settled : Settled 0 hold-free-kinds.ps hold-free-kinds.r hold-free-reads.Post
-hold-free-settled κs a x y e f p q = p ∙ sym q
+pub hold-free-unique : Unique 0 hold-free-kinds.ps hold-free-kinds.r hold-free-reads.Post
+hold-free-unique κs a x y e f p q = p ∙ sym q
 
-pub hold-fresh-settled : Settled 0 hold-fresh-kinds.ps hold-fresh-kinds.r hold-fresh-reads.Post
-hold-fresh-settled κs a x y e f p q = p ∙ sym q
+pub hold-fresh-unique : Unique 0 hold-fresh-kinds.ps hold-fresh-kinds.r hold-fresh-reads.Post
+hold-fresh-unique κs a x y e f p q = p ∙ sym q
 
-pub hold-has-room-settled : Settled 0 hold-has-room-kinds.ps hold-has-room-kinds.r hold-has-room-reads.Post
-hold-has-room-settled κs a x y e f p q = p ∙ sym q
+pub hold-has-room-unique : Unique 0 hold-has-room-kinds.ps hold-has-room-kinds.r hold-has-room-reads.Post
+hold-has-room-unique κs a x y e f p q = p ∙ sym q
 
-pub hold-holds-settled : Settled 0 hold-holds-kinds.ps hold-holds-kinds.r hold-holds-reads.Post
-hold-holds-settled κs a x y e f p q = p ∙ sym q
+pub hold-holds-unique : Unique 0 hold-holds-kinds.ps hold-holds-kinds.r hold-holds-reads.Post
+hold-holds-unique κs a x y e f p q = p ∙ sym q
 
-pub hold-keep-settled : Settled 0 hold-keep-kinds.ps hold-keep-kinds.r hold-keep-reads.Post
-hold-keep-settled κs a x y e f p q = p ∙ sym q
+pub hold-keep-unique : Unique 0 hold-keep-kinds.ps hold-keep-kinds.r hold-keep-reads.Post
+hold-keep-unique κs a x y e f p q = p ∙ sym q
 
-pub hold-put-settled : Settled 0 hold-put-kinds.ps hold-put-kinds.r hold-put-reads.Post
-hold-put-settled κs a x y e f p q = p ∙ sym q
+pub hold-put-unique : Unique 0 hold-put-kinds.ps hold-put-kinds.r hold-put-reads.Post
+hold-put-unique κs a x y e f p q = p ∙ sym q
 
-pub hold-ready-settled : Settled 0 hold-ready-kinds.ps hold-ready-kinds.r hold-ready-reads.Post
-hold-ready-settled κs a x y e f p q = p ∙ sym q
+pub hold-ready-unique : Unique 0 hold-ready-kinds.ps hold-ready-kinds.r hold-ready-reads.Post
+hold-ready-unique κs a x y e f p q = p ∙ sym q
 
-pub join-settled : Settled 0 join-kinds.ps join-kinds.r join-reads.Post
-join-settled κs a x y e f p q = p ∙ sym q
+pub join-unique : Unique 0 join-kinds.ps join-kinds.r join-reads.Post
+join-unique κs a x y e f p q = p ∙ sym q
 
-pub outgoing-at-settled : Settled 0 outgoing-at-kinds.ps outgoing-at-kinds.r outgoing-at-reads.Post
-outgoing-at-settled κs a x y e f p q = p ∙ sym q
+pub outgoing-at-unique : Unique 0 outgoing-at-kinds.ps outgoing-at-kinds.r outgoing-at-reads.Post
+outgoing-at-unique κs a x y e f p q = p ∙ sym q
 
-pub outgoing-clear-settled : Settled 0 outgoing-clear-kinds.ps outgoing-clear-kinds.r outgoing-clear-reads.Post
-outgoing-clear-settled κs a x y e f p q = p ∙ sym q
+pub outgoing-clear-unique : Unique 0 outgoing-clear-kinds.ps outgoing-clear-kinds.r outgoing-clear-reads.Post
+outgoing-clear-unique κs a x y e f p q = p ∙ sym q
 
-pub outgoing-free-settled : Settled 0 outgoing-free-kinds.ps outgoing-free-kinds.r outgoing-free-reads.Post
-outgoing-free-settled κs a x y e f p q = p ∙ sym q
+pub outgoing-free-unique : Unique 0 outgoing-free-kinds.ps outgoing-free-kinds.r outgoing-free-reads.Post
+outgoing-free-unique κs a x y e f p q = p ∙ sym q
 
-pub outgoing-fresh-settled : Settled 0 outgoing-fresh-kinds.ps outgoing-fresh-kinds.r outgoing-fresh-reads.Post
-outgoing-fresh-settled κs a x y e f p q = p ∙ sym q
+pub outgoing-fresh-unique : Unique 0 outgoing-fresh-kinds.ps outgoing-fresh-kinds.r outgoing-fresh-reads.Post
+outgoing-fresh-unique κs a x y e f p q = p ∙ sym q
 
-pub outgoing-post-settled : Settled 0 outgoing-post-kinds.ps outgoing-post-kinds.r outgoing-post-reads.Post
-outgoing-post-settled κs a x y e f p q = p ∙ sym q
+pub outgoing-post-unique : Unique 0 outgoing-post-kinds.ps outgoing-post-kinds.r outgoing-post-reads.Post
+outgoing-post-unique κs a x y e f p q = p ∙ sym q
 
-pub outgoing-room-settled : Settled 0 outgoing-room-kinds.ps outgoing-room-kinds.r outgoing-room-reads.Post
-outgoing-room-settled κs a x y e f p q = p ∙ sym q
+pub outgoing-room-unique : Unique 0 outgoing-room-kinds.ps outgoing-room-kinds.r outgoing-room-reads.Post
+outgoing-room-unique κs a x y e f p q = p ∙ sym q
 
-pub outgoing-send-settled : Settled 0 outgoing-send-kinds.ps outgoing-send-kinds.r outgoing-send-reads.Post
-outgoing-send-settled κs a x y e f p q = p ∙ sym q
+pub outgoing-send-unique : Unique 0 outgoing-send-kinds.ps outgoing-send-kinds.r outgoing-send-reads.Post
+outgoing-send-unique κs a x y e f p q = p ∙ sym q
 
-pub packet-free-settled : Settled 0 packet-free-kinds.ps packet-free-kinds.r packet-free-reads.Post
-packet-free-settled κs a x y e f p q = p ∙ sym q
+pub packet-free-unique : Unique 0 packet-free-kinds.ps packet-free-kinds.r packet-free-reads.Post
+packet-free-unique κs a x y e f p q = p ∙ sym q
 
-pub packet-new-settled : Settled 0 packet-new-kinds.ps packet-new-kinds.r packet-new-reads.Post
-packet-new-settled κs a x y e f p q = p ∙ sym q
+pub packet-new-unique : Unique 0 packet-new-kinds.ps packet-new-kinds.r packet-new-reads.Post
+packet-new-unique κs a x y e f p q = p ∙ sym q
 
-pub recipients-settled : Settled 0 recipients-kinds.ps recipients-kinds.r recipients-reads.Post
-recipients-settled κs a x y e f p q = p ∙ sym q
+pub recipients-unique : Unique 0 recipients-kinds.ps recipients-kinds.r recipients-reads.Post
+recipients-unique κs a x y e f p q = p ∙ sym q
 
-pub request-bytes-settled : Settled 0 request-bytes-kinds.ps request-bytes-kinds.r request-bytes-reads.Post
-request-bytes-settled κs a x y e f p q = p ∙ sym q
+pub request-bytes-unique : Unique 0 request-bytes-kinds.ps request-bytes-kinds.r request-bytes-reads.Post
+request-bytes-unique κs a x y e f p q = p ∙ sym q
 
-pub request-has-digest-settled : Settled 0 request-has-digest-kinds.ps request-has-digest-kinds.r request-has-digest-reads.Post
-request-has-digest-settled κs a x y e f p q = p ∙ sym q
+pub request-has-digest-unique : Unique 0 request-has-digest-kinds.ps request-has-digest-kinds.r request-has-digest-reads.Post
+request-has-digest-unique κs a x y e f p q = p ∙ sym q
 
-pub request-unused-settled : Settled 0 request-unused-kinds.ps request-unused-kinds.r request-unused-reads.Post
-request-unused-settled κs a x y e f p q = p ∙ sym q
+pub request-unused-unique : Unique 0 request-unused-kinds.ps request-unused-kinds.r request-unused-reads.Post
+request-unused-unique κs a x y e f p q = p ∙ sym q
 
-pub requests-fresh-settled : Settled 0 requests-fresh-kinds.ps requests-fresh-kinds.r requests-fresh-reads.Post
-requests-fresh-settled κs a x y e f p q = p ∙ sym q
+pub requests-fresh-unique : Unique 0 requests-fresh-kinds.ps requests-fresh-kinds.r requests-fresh-reads.Post
+requests-fresh-unique κs a x y e f p q = p ∙ sym q
 
-pub requests-knows-settled : Settled 0 requests-knows-kinds.ps requests-knows-kinds.r requests-knows-reads.Post
-requests-knows-settled κs a x y e f p q = p ∙ sym q
+pub requests-knows-unique : Unique 0 requests-knows-kinds.ps requests-knows-kinds.r requests-knows-reads.Post
+requests-knows-unique κs a x y e f p q = p ∙ sym q
 
-pub roster-faults-settled : Settled 0 roster-faults-kinds.ps roster-faults-kinds.r roster-faults-reads.Post
-roster-faults-settled κs a x y e f p q = p ∙ sym q
+pub roster-faults-unique : Unique 0 roster-faults-kinds.ps roster-faults-kinds.r roster-faults-reads.Post
+roster-faults-unique κs a x y e f p q = p ∙ sym q
 
-pub roster-is-faulty-settled : Settled 0 roster-is-faulty-kinds.ps roster-is-faulty-kinds.r roster-is-faulty-reads.Post
-roster-is-faulty-settled κs a x y e f p q = p ∙ sym q
+pub roster-is-faulty-unique : Unique 0 roster-is-faulty-kinds.ps roster-is-faulty-kinds.r roster-is-faulty-reads.Post
+roster-is-faulty-unique κs a x y e f p q = p ∙ sym q
 
-pub roster-is-good-settled : Settled 0 roster-is-good-kinds.ps roster-is-good-kinds.r roster-is-good-reads.Post
-roster-is-good-settled κs a x y e f p q = p ∙ sym q
+pub roster-is-good-unique : Unique 0 roster-is-good-kinds.ps roster-is-good-kinds.r roster-is-good-reads.Post
+roster-is-good-unique κs a x y e f p q = p ∙ sym q
 
-pub roster-member-settled : Settled 0 roster-member-kinds.ps roster-member-kinds.r roster-member-reads.Post
-roster-member-settled κs a x y e f p q = p ∙ sym q
+pub roster-member-unique : Unique 0 roster-member-kinds.ps roster-member-kinds.r roster-member-reads.Post
+roster-member-unique κs a x y e f p q = p ∙ sym q
 
-pub roster-strays-settled : Settled 0 roster-strays-kinds.ps roster-strays-kinds.r roster-strays-reads.Post
-roster-strays-settled κs a x y e f p q = p ∙ sym q
+pub roster-strays-unique : Unique 0 roster-strays-kinds.ps roster-strays-kinds.r roster-strays-reads.Post
+roster-strays-unique κs a x y e f p q = p ∙ sym q
 
-pub roster-threshold-settled : Settled 0 roster-threshold-kinds.ps roster-threshold-kinds.r roster-threshold-reads.Post
-roster-threshold-settled κs a x y e f p q = p ∙ sym q
+pub roster-threshold-unique : Unique 0 roster-threshold-kinds.ps roster-threshold-kinds.r roster-threshold-reads.Post
+roster-threshold-unique κs a x y e f p q = p ∙ sym q
 
-pub same-digest-settled : Settled 0 same-digest-kinds.ps same-digest-kinds.r same-digest-reads.Post
-same-digest-settled κs a x y e f p q = p ∙ sym q
+pub same-digest-unique : Unique 0 same-digest-kinds.ps same-digest-kinds.r same-digest-reads.Post
+same-digest-unique κs a x y e f p q = p ∙ sym q
 
-pub world-fresh-settled : Settled 0 world-fresh-kinds.ps world-fresh-kinds.r world-fresh-reads.Post
-world-fresh-settled κs a x y e f p q = p ∙ sym q
+pub world-fresh-unique : Unique 0 world-fresh-kinds.ps world-fresh-kinds.r world-fresh-reads.Post
+world-fresh-unique κs a x y e f p q = p ∙ sym q

@@ -7,7 +7,7 @@ use lib.Dec.{eqb, ltb}
 use lib.ListN.{getD, replicate}
 use Rattle.search.specs.declared.Found.{Found}
 use Rattle.search.specs.Search.{first}
-use Rattle.digest.specs.Digest.{digestBytes}
+use Rattle.fips180.specs.Digest.{digestBytes}
 use Rattle.world.specs.declared.roster.Roster.{Roster}
 use Rattle.world.specs.declared.execution.Execution.{Execution}
 use Rattle.world.specs.declared.execution.Executions.{Executions}

@@ -5,8 +5,8 @@ use mathlib.Core.List.{List, [], _∷_, _++_}
 use lib.Dec.{eqb, ltb}
 use lib.ListN.{getD, replicate}
 use Rattle.search.specs.Search.{any}
-use Rattle.digest.specs.Sha256.{be}
-use Rattle.digest.specs.Digest.{digestBytes}
+use Rattle.fips180.specs.Sha256.{be}
+use Rattle.fips180.specs.Digest.{digestBytes}
 use Rattle.world.specs.declared.request.Request.{Request}
 use Rattle.world.specs.declared.request.Requests.{Requests}
 use Rattle.world.specs.Sizes.{requestsMost, commandBytes}

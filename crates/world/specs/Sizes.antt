@@ -1,5 +1,5 @@
 -- Document 01, "Sizes".
-use Prim.Native.Nat.{ℕ, _*_}
+use Prim.Native.Nat.{ℕ, _+_, _*_}
 
 abbrev pub servers : ℕ
 servers = 8
@@ -23,6 +23,9 @@ holdPlaces = 64
 abbrev pub deliveredMost : ℕ
 deliveredMost = servers * executionsMost
 
--- the bytes of a command
+-- the bytes of a request's body: ahead of the command (client, number of four bytes, seals), and the command
+abbrev pub headBytes : ℕ
+headBytes = 1 + 4 + 1
+
 abbrev pub commandBytes : ℕ
 commandBytes = 24

@@ -3,7 +3,7 @@ ghost use mathlib.Core.Path.{_≡_};
 ghost use Rattle.world.specs.Executions.{unusedExecution, freshExecutions, executionOf, opened, called, ordered};
 use crate::mask::join;
 use crate::roster::Roster;
-use digest::Digest;
+use fips180::Digest;
 use search::Found;
 
 #[repr(C)]

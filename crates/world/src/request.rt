@@ -1,7 +1,7 @@
 // The stored requests. A slot is a place in the order in which they came.
 ghost use mathlib.Core.Path.{_≡_};
 ghost use Rattle.world.specs.Requests.{unusedRequest, freshRequests, requestBytes, sameDigest, knownDigest};
-use digest::Digest;
+use fips180::Digest;
 
 #[repr(C)]
 pub struct Request {
@@ -20,9 +20,13 @@ pub struct Requests {
 }
 
 impl Request {
+    // The bytes ahead of the command: the client, the number's four and the seals.
+    pub const HEAD: usize = 1 + 4 + 1;
+
     pub const COMMAND: usize = 24;
-    // The client, the number's four bytes, the seals and the command.
-    pub const BYTES: usize = 6 + Request::COMMAND;
+
+    // The bytes of a request's body.
+    pub const BYTES: usize = Request::HEAD + Request::COMMAND;
 
     // A slot that is not given yet.
     pub fn unused() -> Request
@@ -58,7 +62,7 @@ impl Request {
         b[5] = self.seals;
         let mut i: usize = 0;
         while i < Request::COMMAND {
-            b[6 + i] = self.command[i];
+            b[Request::HEAD + i] = self.command[i];
             i += 1;
         }
         b

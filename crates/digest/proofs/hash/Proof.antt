@@ -3,7 +3,7 @@ use mathlib.Core.Path.{_≡_, sym, ap, _∙_}
 use Prim.Native.Nat.{_-_, _≤_}
 use native.Mathlib.Numerals.{add-one}
 use native.Mathlib.Omega.{arith}
-use Rattle.digest.specs.Sha256.{padded, hashed, blocks}
+use Rattle.fips180.specs.Sha256.{padded, hashed, blocks}
 use Rattle.digest.proofs.Padding.{block-count}
 use Rattle.digest.proofs.hash.Statement.{statement}
 use Rattle.digest.proofs.hash.Tie as tie
@@ -14,8 +14,8 @@ Inv-loop s n v₀ k₀ v k = (k ≤ n) × (v ≡ hashed (padded s) k)
 abbrev μ-loop : tie.MeasureT-loop
 μ-loop s n v₀ k₀ v k = n - k
 
-count-requires : tie.Need-count-requires Inv-loop μ-loop
-count-requires c κs = search needs
+block-count-requires : tie.Need-block-count-requires Inv-loop μ-loop
+block-count-requires c κs = search needs
 
 start-requires : tie.Need-start-requires Inv-loop μ-loop
 start-requires c κs = search needs
@@ -24,8 +24,8 @@ loop-holds : tie.Need-loop-holds Inv-loop μ-loop
 unfolding hashed
 loop-holds c = (search needs, cc)
 
-of-requires : tie.Need-of-requires Inv-loop μ-loop
-of-requires c κs = omega (arith, block-count (c .before .before .before .before .before .args .s .now))
+block-of-requires : tie.Need-block-of-requires Inv-loop μ-loop
+block-of-requires c κs = omega (arith, block-count (c .before .before .before .before .before .args .s .now))
 
 compress-requires : tie.Need-compress-requires Inv-loop μ-loop
 compress-requires c κs = search needs
@@ -52,10 +52,10 @@ hash-spec =
     (tie.spec
     Inv-loop
     μ-loop
-    count-requires
+    block-count-requires
     start-requires
     loop-holds
-    of-requires
+    block-of-requires
     compress-requires
     add-k
     loop-less

@@ -1,6 +1,6 @@
 use borrow.Author.Tests.{lt-ltb, le-ltb}
-use Rattle.digest.specs.Digest.{digestAnswer}
-use Rattle.digest.specs.Sha256.{digestOf}
+use Rattle.fips180.specs.Digest.{digestAnswer}
+use Rattle.fips180.specs.Sha256.{digestOf}
 use borrow.Author.Needs.{needs}
 use Rattle.digest.proofs.sha256.Statement.{statement}
 use Rattle.digest.proofs.sha256.Tie as tie

@@ -2,20 +2,20 @@ use mathlib.Core.Path.{_≡_}
 use borrow.Author.Needs.{needs}
 use Prim.Native.Nat.{ℕ, _-_, _<_}
 use native.Mathlib.Omega.{arith}
-use Rattle.search.proofs.Laws.{Kept, kept-none, kept-all, kept-tested, kept-failed}
-use Rattle.soundness.specs.Quiet.{serverQuiet, quiet}
-use Rattle.soundness.proofs.Seats.{seat-own}
+use Rattle.search.proofs.Laws.{Held, held-none, held-all, held-tested, held-failed}
+use Rattle.protocol.specs.Quiet.{serverQuiet, quiet}
+use Rattle.world.proofs.Seats.{seat-own}
 use Rattle.soundness.proofs.quiet.Statement.{statement}
 use Rattle.soundness.proofs.quiet.Tie as tie
 
 abbrev Inv-loop : tie.InvT-loop
-Inv-loop w tables s₀ s = Kept (λ (i : ℕ). serverQuiet w i) 8 s
+Inv-loop w tables s₀ s = Held (λ (i : ℕ). serverQuiet w i) 8 s
 
 abbrev μ-loop : tie.MeasureT-loop
 μ-loop w tables s₀ s = 8 - s
 
 loop-holds : tie.Need-loop-holds Inv-loop μ-loop
-loop-holds c = kept-none _ _
+loop-holds c = held-none _ _
 
 cast-i : tie.Need-cast-i Inv-loop μ-loop
 cast-i c = omega arith
@@ -58,15 +58,15 @@ turn c =
     rw (seat-own (c .before .before .before .before .before .before .before .loop .s) h, c .server-quiet .ensures, c .before .before .next .ensures)
 
 loop-again : tie.Need-loop-again Inv-loop μ-loop
-loop-again c = kept-tested _ _ _ _ (omega arith) (turn (c .before)) (c .if2 .left) (c .before .before .before .before .before .before .before .before .loop .inv)
+loop-again c = held-tested _ _ _ _ (omega arith) (turn (c .before)) (c .if2 .left) (c .before .before .before .before .before .before .before .before .loop .inv)
 
 returns : tie.Need-returns Inv-loop μ-loop
 unfolding quiet
-returns c = kept-all _ _ _ (c .if1 .taken) (c .before .loop .inv)
+returns c = held-all _ _ _ (c .if1 .taken) (c .before .loop .inv)
 
 returns-2 : tie.Need-returns-2 Inv-loop μ-loop
 unfolding quiet
-returns-2 c = kept-failed _ _ _ _ (omega arith) (turn (c .before)) (c .if2 .taken) (c .before .before .before .before .before .before .before .before .loop .inv)
+returns-2 c = held-failed _ _ _ _ (omega arith) (turn (c .before)) (c .if2 .taken) (c .before .before .before .before .before .before .before .before .loop .inv)
 
 pub quiet-spec : {M : Type 1} → statement M
 quiet-spec =

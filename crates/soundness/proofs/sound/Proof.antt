@@ -1,4 +1,4 @@
-use Rattle.soundness.specs.Sound.{sound}
+use Rattle.protocol.specs.Sound.{sound}
 use borrow.Author.Needs.{needs}
 use Rattle.soundness.proofs.sound.Statement.{statement}
 use Rattle.soundness.proofs.sound.Tie as tie

@@ -14,8 +14,8 @@ returns c = let a = c .before .before .before .args in in-message (a .s .now) (a
 returns-2 : tie.Need-returns-2
 returns-2 c = let a = c .before .before .before .args in at-mark (a .s .now) (a .p) (c .if2 .taken)
 
-count-requires : tie.Need-count-requires
-count-requires c κs = search needs
+block-count-requires : tie.Need-block-count-requires
+block-count-requires c κs = search needs
 
 mul-e : tie.Need-mul-e
 mul-e c = search needs
@@ -35,7 +35,7 @@ length-byte-requires c κs = let a = c .before .before .before .before .before .
 returns-4 : tie.Need-returns-4
 returns-4 c =
     let a = c .before .before .before .before .before .before .args in
-    (rw (c .before .before .count .ensures) at (c .length-byte .ensures)) ∙ in-length (a .s .now) (a .p) (omega arith)
+    (rw (c .before .before .block-count .ensures) at (c .length-byte .ensures)) ∙ in-length (a .s .now) (a .p) (omega arith)
 
 pub padded-byte-spec : {M : Type 1} → statement M
 padded-byte-spec =
@@ -44,7 +44,7 @@ padded-byte-spec =
     shared-slice-read-result
     returns
     returns-2
-    count-requires
+    block-count-requires
     mul-e
     sub-e
     returns-3

@@ -6,7 +6,7 @@ use mathlib.Core.Path.{_≡_, refl, _∙_}
 use lib.ListN.{length, take}
 use Rattle.world.proofs.Typed.{delivered-items}
 use Rattle.listing.specs.Writing.{Wrote}
-use Rattle.listing.specs.Listing.{itemTexts}
+use Rattle.protocol.specs.Listing.{itemTexts}
 use Rattle.listing.proofs.Placing.{wrote-length}
 use Rattle.listing.proofs.Rows.{items-none, items-more, items-all}
 use Rattle.listing.proofs.lines.put_items.Statement.{statement}

@@ -5,7 +5,7 @@ use Prim.Native.Nat.{_+_, _-_, _*_, _≤_}
 use native.Mathlib.Omega.{arith}
 use mathlib.Core.Path.{_≡_, refl, _∙_}
 use Rattle.listing.specs.Writing.{Wrote}
-use Rattle.listing.specs.Listing.{serverLines}
+use Rattle.protocol.specs.Listing.{serverLines}
 use Rattle.listing.proofs.Placing.{wrote-length}
 use Rattle.listing.proofs.lines.put_servers.Statement.{statement}
 use Rattle.listing.proofs.lines.put_servers.Tie as tie

@@ -5,7 +5,7 @@ use native.Mathlib.Omega.{arith}
 use mathlib.Core.Path.{_≡_}
 use lib.ListN.{length, take}
 use Rattle.listing.specs.Writing.{Wrote}
-use Rattle.listing.specs.Listing.{stepLines}
+use Rattle.protocol.specs.Listing.{stepLines}
 use Rattle.listing.proofs.Placing.{wrote-length}
 use Rattle.listing.proofs.Rows.{steps-none, steps-more}
 use Rattle.listing.proofs.lines.put_steps.Statement.{statement}

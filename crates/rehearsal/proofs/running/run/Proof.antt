@@ -1,4 +1,4 @@
-use Rattle.schedule.specs.Records.{asked}
+use Rattle.format.specs.Records.{asked}
 use borrow.Author.Needs.{needs}
 use mathlib.Core.Path.{_≡_, refl, sym, ap, _∙_}
 use Prim.Native.Nat.{ℕ, _+_, _-_, _≤_}
@@ -6,14 +6,15 @@ use native.Mathlib.Omega.{arith}
 use borrow.Author.Tests.{le-leb, lt-leb}
 use lib.ListN.{length}
 use Rattle.search.specs.Tests.{must}
-use Rattle.rules.specs.Answers.{answerNumber}
-use Rattle.schedule.specs.Records.{readAt}
-use Rattle.schedule.specs.Judging.{judged}
-use Rattle.schedule.specs.declared.scanning.Verdict.the-variants.{Accepted}
-use Rattle.schedule.proofs.Reader.{known, isRecord, no-record}
-use Rattle.rehearsal.specs.Steps.{stepOf}
-use Rattle.rehearsal.specs.Runs.{startWorld, ranOf, writtenOf}
-use Rattle.rehearsal.proofs.Going.{Going, going-start, going-room, going-on, going-end, store-turn, act-turn, judged-count}
+use Rattle.protocol.specs.Answers.{answerNumber}
+use Rattle.format.specs.Records.{readAt}
+use Rattle.format.specs.Judging.{judged}
+use Rattle.format.specs.declared.verdict.Verdict.the-variants.{Accepted}
+use Rattle.format.proofs.Reader.{known, isRecord, no-record}
+use Rattle.protocol.specs.Steps.{stepOf}
+use Rattle.protocol.specs.Runs.{startWorld, ranOf, writtenOf}
+use Rattle.rehearsal.proofs.Going.{Going, going-start, going-room, going-on, going-end, store-turn, act-turn}
+use Rattle.format.proofs.Judged.{accepted-means}
 use Rattle.rehearsal.proofs.running.run.Statement.{statement}
 use Rattle.rehearsal.proofs.running.run.Tie as tie
 
@@ -57,7 +58,7 @@ fresh-requires-3 c κs = search needs
 
 loop-holds : tie.Need-loop-holds Inv-loop μ-loop
 loop-holds c =
-    let e : c .before .before .before .before .before .verdict .given .0 .0 ≡ length (asked (c .before .before .before .before .before .before .before .before .before .before .args .s .now)) = judged-count _ _ (sym (c .before .before .before .before .before .before .before .judge .ensures) ∙ c .before .before .before .before .before .verdict .given .1) in
+    let e : c .before .before .before .before .before .verdict .given .0 .0 ≡ length (asked (c .before .before .before .before .before .before .before .before .before .before .args .s .now)) = accepted-means _ _ (sym (c .before .before .before .before .before .before .before .judge .ensures) ∙ c .before .before .before .before .before .verdict .given .1) .count in
     rw (c .fresh3 .ensures, c .before .before .byte-at .ensures, c .before .byte-at2 .ensures) (going-start _ _ _ (omega arith))
 
 read-at-requires : tie.Need-read-at-requires Inv-loop μ-loop
@@ -76,7 +77,7 @@ returns-3 c =
     let h : isRecord (readAt s (c .before .before .loop .at)) ≡ 0 = rw (c .before .read-at .ensures) at (no-record (c .before .read-at .result) (c .match2 .keys2)) in
     let d = going-end (c .before .before .loop .inv) h in
     let j = sym (c .before .before .before .before .before .before .before .before .before .before .judge .ensures) ∙ c .before .before .before .before .before .before .before .before .verdict .given .1 in
-    let e : c .before .before .before .before .before .before .before .before .verdict .given .0 .0 ≡ c .before .before .loop .k = judged-count _ _ j ∙ sym (d .all) in
+    let e : c .before .before .before .before .before .before .before .before .verdict .given .0 .0 ≡ c .before .before .loop .k = accepted-means _ _ j .count ∙ sym (d .all) in
     let l = le-leb _ _ (c .before .before .before .before .before .before .if1 .left) in
     (rw (j, l, e, d .world), rw (j, l, e) (d .answers))
 

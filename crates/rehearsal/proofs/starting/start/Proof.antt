@@ -1,6 +1,6 @@
 use Rattle.search.specs.Tests.{must}
-use Rattle.search.proofs.Laws.{not-yes, not-no}
-use Rattle.rehearsal.specs.Runs.{startOf}
+use Rattle.search.proofs.Booleans.{not-out, not-no}
+use Rattle.protocol.specs.Runs.{startOf}
 use borrow.Author.Needs.{needs}
 use Rattle.rehearsal.proofs.starting.start.Statement.{statement}
 use Rattle.rehearsal.proofs.starting.start.Tie as tie
@@ -16,7 +16,7 @@ fresh-requires c κs = search needs
 
 returns : tie.Need-returns
 unfolding startOf must
-returns c = simp (← c .before .before .before .is-good .ensures, not-yes (c .before .before .before .is-good .result) (c .before .before .if1 .taken), c .before .number .ensures, c .fresh .ensures)
+returns c = simp (← c .before .before .before .is-good .ensures, not-out (c .before .before .before .is-good .result) (c .before .before .if1 .taken), c .before .number .ensures, c .fresh .ensures)
 
 fresh-requires-2 : tie.Need-fresh-requires-2
 fresh-requires-2 c κs = search needs

@@ -1,4 +1,4 @@
-use Rattle.schedule.specs.declared.kinds.Kind.the-variants.{Act}
+use Rattle.format.specs.declared.kinds.Kind.the-variants.{Act}
 use mathlib.Core.Path.{refl}
 use Rattle.rehearsal.proofs.Going.{act-turn}
 use borrow.Author.Needs.{needs}

@@ -1,9 +1,9 @@
 use mathlib.Core.Path.{_≡_, sym, _∙_}
 use native.Mathlib.Omega.{arith}
 use Rattle.search.specs.Tests.{must}
-use Rattle.search.proofs.Laws.{not-yes, not-no}
-use Rattle.schedule.proofs.Reader.{known}
-use Rattle.rehearsal.specs.Runs.{stepped, steppedBy}
+use Rattle.search.proofs.Booleans.{not-out, not-no}
+use Rattle.format.proofs.Reader.{known}
+use Rattle.protocol.specs.Runs.{stepped, steppedBy}
 use borrow.Author.Needs.{needs}
 use Rattle.rehearsal.proofs.stepping.step.Statement.{statement}
 use Rattle.rehearsal.proofs.stepping.step.Tie as tie
@@ -16,7 +16,7 @@ number-requires c κs = search needs
 
 returns : tie.Need-returns
 unfolding stepped must
-returns c = simp (← c .before .before .sound .ensures, not-yes (c .before .before .sound .result) (c .before .if1 .taken), c .number .ensures)
+returns c = simp (← c .before .before .sound .ensures, not-out (c .before .before .sound .result) (c .before .if1 .taken), c .number .ensures)
 
 read-at-requires : tie.Need-read-at-requires
 read-at-requires c κs = search needs

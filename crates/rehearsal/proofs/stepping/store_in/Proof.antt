@@ -1,4 +1,4 @@
-use Rattle.schedule.specs.declared.kinds.Kind.the-variants.{Request}
+use Rattle.format.specs.declared.kinds.Kind.the-variants.{Request}
 use mathlib.Core.Path.{refl}
 use Rattle.rehearsal.proofs.Going.{store-turn}
 use borrow.Author.Needs.{needs}

@@ -1,7 +1,7 @@
 use mathlib.Core.Path.{_≡_, sym, ap, _∙_}
-use Rattle.search.proofs.Laws.{not-yes, not-no}
+use Rattle.search.proofs.Booleans.{not-out, not-no}
 use Rattle.search.specs.Tests.{must}
-use Rattle.rules.specs.Rules.{arriveOf}
+use Rattle.protocol.specs.Rules.{arriveOf}
 use borrow.Author.Needs.{needs}
 use Rattle.rules.proofs.arrival.arrive.Statement.{statement}
 use Rattle.rules.proofs.arrival.arrive.Tie as tie
@@ -14,7 +14,7 @@ answer-requires c κs = search needs
 
 returns : tie.Need-returns
 unfolding arriveOf must
-returns c = simp (c .answer .ensures, ← c .before .before .member .ensures, not-yes (c .before .before .member .result) (c .before .if1 .taken))
+returns c = simp (c .answer .ensures, ← c .before .before .member .ensures, not-out (c .before .before .member .result) (c .before .if1 .taken))
 
 at-requires : tie.Need-at-requires
 at-requires c κs = search needs
@@ -27,7 +27,7 @@ answer-requires-2 c κs = search needs
 
 returns-2 : tie.Need-returns-2
 unfolding arriveOf must
-returns-2 c = simp (c .answer2 .ensures, ← c .before .before .before .before .before .before .member .ensures, not-no (c .before .before .before .before .before .before .member .result) (c .before .before .before .before .before .if1 .left), ← c .before .before .before .before .at .ensures, not-yes (c .before .before .before .before .at .result .there) (c .before .if2 .taken))
+returns-2 c = simp (c .answer2 .ensures, ← c .before .before .before .before .before .before .member .ensures, not-no (c .before .before .before .before .before .before .member .result) (c .before .before .before .before .before .if1 .left), ← c .before .before .before .before .at .ensures, not-out (c .before .before .before .before .at .result .there) (c .before .if2 .taken))
 
 is-faulty-requires : tie.Need-is-faulty-requires
 is-faulty-requires c κs = search needs
@@ -50,7 +50,7 @@ answer-requires-4 c κs = search needs
 
 returns-4 : tie.Need-returns-4
 unfolding arriveOf must
-returns-4 c = simp (c .answer4 .ensures, ← c .before .before .before .before .before .before .before .before .before .before .before .member .ensures, not-no (c .before .before .before .before .before .before .before .before .before .before .before .member .result) (c .before .before .before .before .before .before .before .before .before .before .if1 .left), ← c .before .before .before .before .before .before .before .before .before .at .ensures, not-no (c .before .before .before .before .before .before .before .before .before .at .result .there) (c .before .before .before .before .before .before .if2 .left), ← c .before .before .before .before .before .is-faulty .ensures, ← c .before .before .before .before .holds .ensures, c .before .before .before .if3 .left, ← c .before .before .has-room .ensures, not-yes (c .before .before .has-room .result) (c .before .if4 .taken))
+returns-4 c = simp (c .answer4 .ensures, ← c .before .before .before .before .before .before .before .before .before .before .before .member .ensures, not-no (c .before .before .before .before .before .before .before .before .before .before .before .member .result) (c .before .before .before .before .before .before .before .before .before .before .if1 .left), ← c .before .before .before .before .before .before .before .before .before .at .ensures, not-no (c .before .before .before .before .before .before .before .before .before .at .result .there) (c .before .before .before .before .before .before .if2 .left), ← c .before .before .before .before .before .is-faulty .ensures, ← c .before .before .before .before .holds .ensures, c .before .before .before .if3 .left, ← c .before .before .has-room .ensures, not-out (c .before .before .has-room .result) (c .before .if4 .taken))
 
 new-requires : tie.Need-new-requires
 new-requires c κs = search needs

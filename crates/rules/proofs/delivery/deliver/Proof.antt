@@ -1,10 +1,10 @@
 use mathlib.Core.Path.{_≡_, sym, ap, _∙_}
-use Rattle.search.proofs.Laws.{not-yes, not-no}
+use Rattle.search.proofs.Booleans.{not-out, not-no}
 use Rattle.search.specs.Tests.{must}
 use Prim.Native.Nat.{_<_}
 use native.Mathlib.Omega.{arith}
 use Rattle.search.proofs.Laws.{found-in}
-use Rattle.rules.specs.Rules.{deliverOf, deliverFound}
+use Rattle.protocol.specs.Rules.{deliverOf, deliverFound}
 use borrow.Author.Needs.{needs}
 use Rattle.rules.proofs.delivery.deliver.Statement.{statement}
 use Rattle.rules.proofs.delivery.deliver.Tie as tie
@@ -17,7 +17,7 @@ answer-requires c κs = search needs
 
 returns : tie.Need-returns
 unfolding deliverOf must
-returns c = simp (c .answer .ensures, ← c .before .before .member .ensures, not-yes (c .before .before .member .result) (c .before .if1 .taken))
+returns c = simp (c .answer .ensures, ← c .before .before .member .ensures, not-out (c .before .before .member .result) (c .before .if1 .taken))
 
 is-faulty-requires : tie.Need-is-faulty-requires
 is-faulty-requires c κs = search needs

@@ -1,7 +1,7 @@
 use mathlib.Core.Path.{_≡_, sym, ap, _∙_}
-use Rattle.search.proofs.Laws.{not-yes, not-no}
+use Rattle.search.proofs.Booleans.{not-out, not-no}
 use Rattle.search.specs.Tests.{must}
-use Rattle.rules.specs.Rules.{forgeReceiveTo}
+use Rattle.protocol.specs.Rules.{forgeReceiveTo}
 use borrow.Author.Needs.{needs}
 use Rattle.rules.proofs.forged_receive.receive_to.Statement.{statement}
 use Rattle.rules.proofs.forged_receive.receive_to.Tie as tie
@@ -30,7 +30,7 @@ answer-requires-2 c κs = search needs
 
 returns-2 : tie.Need-returns-2
 unfolding forgeReceiveTo must
-returns-2 c = simp (c .answer2 .ensures, ← c .before .before .before .before .has .ensures, c .before .before .before .if1 .left, ← c .before .before .same-digest .ensures, not-yes (c .before .before .same-digest .result) (c .before .if2 .taken))
+returns-2 c = simp (c .answer2 .ensures, ← c .before .before .before .before .has .ensures, c .before .before .before .if1 .left, ← c .before .before .same-digest .ensures, not-out (c .before .before .same-digest .result) (c .before .if2 .taken))
 
 record-requires : tie.Need-record-requires
 record-requires c κs = search needs

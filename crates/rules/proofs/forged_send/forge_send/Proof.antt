@@ -1,9 +1,9 @@
 use mathlib.Core.Path.{_≡_, sym, ap, _∙_}
-use Rattle.search.proofs.Laws.{not-yes, not-no}
+use Rattle.search.proofs.Booleans.{not-out, not-no}
 use Rattle.search.specs.Tests.{must}
 use borrow.Author.Tests.{lt-ltb, le-ltb}
 use native.Mathlib.Omega.{arith}
-use Rattle.rules.specs.Rules.{forgeSendOf}
+use Rattle.protocol.specs.Rules.{forgeSendOf}
 use borrow.Author.Needs.{needs}
 use Rattle.rules.proofs.forged_send.forge_send.Statement.{statement}
 use Rattle.rules.proofs.forged_send.forge_send.Tie as tie
@@ -16,7 +16,7 @@ answer-requires c κs = search needs
 
 returns : tie.Need-returns
 unfolding forgeSendOf must
-returns c = simp (c .answer .ensures, ← c .before .before .member .ensures, not-yes (c .before .before .member .result) (c .before .if1 .taken))
+returns c = simp (c .answer .ensures, ← c .before .before .member .ensures, not-out (c .before .before .member .result) (c .before .if1 .taken))
 
 is-faulty-requires : tie.Need-is-faulty-requires
 is-faulty-requires c κs = search needs
@@ -26,7 +26,7 @@ answer-requires-2 c κs = search needs
 
 returns-2 : tie.Need-returns-2
 unfolding forgeSendOf must
-returns-2 c = simp (c .answer2 .ensures, ← c .before .before .before .before .member .ensures, not-no (c .before .before .before .before .member .result) (c .before .before .before .if1 .left), ← c .before .before .is-faulty .ensures, not-yes (c .before .before .is-faulty .result) (c .before .if2 .taken))
+returns-2 c = simp (c .answer2 .ensures, ← c .before .before .before .before .member .ensures, not-no (c .before .before .before .before .member .result) (c .before .before .before .if1 .left), ← c .before .before .is-faulty .ensures, not-out (c .before .before .is-faulty .result) (c .before .if2 .taken))
 
 find-requires : tie.Need-find-requires
 find-requires c κs = search needs

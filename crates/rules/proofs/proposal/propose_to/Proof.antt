@@ -1,7 +1,7 @@
 use mathlib.Core.Path.{_≡_, sym, ap, _∙_}
-use Rattle.search.proofs.Laws.{not-yes, not-no}
+use Rattle.search.proofs.Booleans.{not-out, not-no}
 use Rattle.search.specs.Tests.{must}
-use Rattle.rules.specs.Rules.{proposeTo}
+use Rattle.protocol.specs.Rules.{proposeTo}
 use borrow.Author.Needs.{needs}
 use Rattle.rules.proofs.proposal.propose_to.Statement.{statement}
 use Rattle.rules.proofs.proposal.propose_to.Tie as tie
@@ -33,7 +33,7 @@ answer-requires c κs = search needs
 
 returns-2 : tie.Need-returns-2
 unfolding proposeTo must
-returns-2 c = simp (c .answer .ensures, c .before .raise .ensures, ← c .before .before .before .before .before .has .ensures, c .before .before .before .before .if1 .left, ← c .before .before .before .has2 .ensures, not-yes (c .before .before .before .has2 .result) (c .before .before .if2 .taken))
+returns-2 c = simp (c .answer .ensures, c .before .raise .ensures, ← c .before .before .before .before .before .has .ensures, c .before .before .before .before .if1 .left, ← c .before .before .before .has2 .ensures, not-out (c .before .before .before .has2 .result) (c .before .before .if2 .taken))
 
 same-digest-requires : tie.Need-same-digest-requires
 same-digest-requires c κs = search needs
@@ -43,7 +43,7 @@ drop-entry-requires-2 c κs = search needs
 
 returns-3 : tie.Need-returns-3
 unfolding proposeTo must
-returns-3 c = simp (c .drop-entry2 .ensures, ← c .before .before .before .before .before .before .before .before .has .ensures, c .before .before .before .before .before .before .before .if1 .left, ← c .before .before .before .before .before .before .has2 .ensures, not-no (c .before .before .before .before .before .before .has2 .result) (c .before .before .before .before .before .if2 .left), ← c .before .before .same-digest .ensures, not-yes (c .before .before .same-digest .result) (c .before .if3 .taken))
+returns-3 c = simp (c .drop-entry2 .ensures, ← c .before .before .before .before .before .before .before .before .has .ensures, c .before .before .before .before .before .before .before .if1 .left, ← c .before .before .before .before .before .before .has2 .ensures, not-no (c .before .before .before .before .before .before .has2 .result) (c .before .before .before .before .before .if2 .left), ← c .before .before .same-digest .ensures, not-out (c .before .before .same-digest .result) (c .before .if3 .taken))
 
 raise-requires-2 : tie.Need-raise-requires-2
 raise-requires-2 c κs = search needs

@@ -1,4 +1,4 @@
-use Rattle.rules.specs.Rules.{multicastDone}
+use Rattle.protocol.specs.Rules.{multicastDone}
 use borrow.Author.Needs.{needs}
 use Rattle.rules.proofs.sending.cast.Statement.{statement}
 use Rattle.rules.proofs.sending.cast.Tie as tie

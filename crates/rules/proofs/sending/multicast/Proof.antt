@@ -1,8 +1,8 @@
 use mathlib.Core.Path.{_≡_, sym, ap, _∙_}
-use Rattle.search.proofs.Laws.{not-yes, not-no}
+use Rattle.search.proofs.Booleans.{not-out, not-no}
 use Rattle.search.specs.Tests.{must}
 use borrow.Author.Tests.{lt-ltb, le-ltb}
-use Rattle.rules.specs.Rules.{multicastOf}
+use Rattle.protocol.specs.Rules.{multicastOf}
 use borrow.Author.Needs.{needs}
 use Rattle.rules.proofs.sending.multicast.Statement.{statement}
 use Rattle.rules.proofs.sending.multicast.Tie as tie
@@ -15,7 +15,7 @@ answer-requires c κs = search needs
 
 returns : tie.Need-returns
 unfolding multicastOf must
-returns c = simp (c .answer .ensures, ← c .before .before .member .ensures, not-yes (c .before .before .member .result) (c .before .if1 .taken))
+returns c = simp (c .answer .ensures, ← c .before .before .member .ensures, not-out (c .before .before .member .result) (c .before .if1 .taken))
 
 is-faulty-requires : tie.Need-is-faulty-requires
 is-faulty-requires c κs = search needs
@@ -42,7 +42,7 @@ answer-requires-4 c κs = search needs
 
 returns-4 : tie.Need-returns-4
 unfolding multicastOf must
-returns-4 c = simp (c .answer4 .ensures, ← c .before .before .before .before .before .before .before .before .member .ensures, not-no (c .before .before .before .before .before .before .before .before .member .result) (c .before .before .before .before .before .before .before .if1 .left), ← c .before .before .before .before .before .before .is-faulty .ensures, c .before .before .before .before .before .if2 .left, lt-ltb _ _ (c .before .before .before .if3 .left), ← c .before .before .has .ensures, not-yes (c .before .before .has .result) (c .before .if4 .taken))
+returns-4 c = simp (c .answer4 .ensures, ← c .before .before .before .before .before .before .before .before .member .ensures, not-no (c .before .before .before .before .before .before .before .before .member .result) (c .before .before .before .before .before .before .before .if1 .left), ← c .before .before .before .before .before .before .is-faulty .ensures, c .before .before .before .before .before .if2 .left, lt-ltb _ _ (c .before .before .before .if3 .left), ← c .before .before .has .ensures, not-out (c .before .before .has .result) (c .before .if4 .taken))
 
 cast-if5 : tie.Need-cast-if5
 cast-if5 c = search needs
@@ -62,7 +62,7 @@ answer-requires-6 c κs = search needs
 
 returns-6 : tie.Need-returns-6
 unfolding multicastOf must
-returns-6 c = simp (c .answer6 .ensures, ← c .before .before .before .before .before .before .before .before .before .before .before .before .member .ensures, not-no (c .before .before .before .before .before .before .before .before .before .before .before .before .member .result) (c .before .before .before .before .before .before .before .before .before .before .before .if1 .left), ← c .before .before .before .before .before .before .before .before .before .before .is-faulty .ensures, c .before .before .before .before .before .before .before .before .before .if2 .left, lt-ltb _ _ (c .before .before .before .before .before .before .before .if3 .left), ← c .before .before .before .before .before .before .has .ensures, not-no (c .before .before .before .before .before .before .has .result) (c .before .before .before .before .before .if4 .left), lt-ltb _ _ (c .before .before .before .if5 .left), ← c .before .before .has-room .ensures, not-yes (c .before .before .has-room .result) (c .before .if6 .taken))
+returns-6 c = simp (c .answer6 .ensures, ← c .before .before .before .before .before .before .before .before .before .before .before .before .member .ensures, not-no (c .before .before .before .before .before .before .before .before .before .before .before .before .member .result) (c .before .before .before .before .before .before .before .before .before .before .before .if1 .left), ← c .before .before .before .before .before .before .before .before .before .before .is-faulty .ensures, c .before .before .before .before .before .before .before .before .before .if2 .left, lt-ltb _ _ (c .before .before .before .before .before .before .before .if3 .left), ← c .before .before .before .before .before .before .has .ensures, not-no (c .before .before .before .before .before .before .has .result) (c .before .before .before .before .before .if4 .left), lt-ltb _ _ (c .before .before .before .if5 .left), ← c .before .before .has-room .ensures, not-out (c .before .before .has-room .result) (c .before .if6 .taken))
 
 cast-requires : tie.Need-cast-requires
 cast-requires c κs = search needs

@@ -1,9 +1,9 @@
 use mathlib.Core.Path.{_≡_, sym, ap, _∙_}
-use Rattle.search.proofs.Laws.{not-yes, not-no}
+use Rattle.search.proofs.Booleans.{not-out, not-no}
 use Rattle.search.specs.Tests.{must}
 use borrow.Author.Tests.{eq-eqb, ne-eqb}
 use Rattle.search.proofs.Laws.{found-in}
-use Rattle.rules.specs.Rules.{settleOf, settleFound}
+use Rattle.protocol.specs.Rules.{settleOf, settleFound}
 use borrow.Author.Needs.{needs}
 use Rattle.rules.proofs.settling.settle.Statement.{statement}
 use Rattle.rules.proofs.settling.settle.Tie as tie
@@ -16,7 +16,7 @@ answer-requires c κs = search needs
 
 returns : tie.Need-returns
 unfolding settleOf must
-returns c = simp (c .answer .ensures, ← c .before .before .member .ensures, not-yes (c .before .before .member .result) (c .before .if1 .taken))
+returns c = simp (c .answer .ensures, ← c .before .before .member .ensures, not-out (c .before .before .member .result) (c .before .if1 .taken))
 
 is-faulty-requires : tie.Need-is-faulty-requires
 is-faulty-requires c κs = search needs

@@ -1,8 +1,8 @@
 use mathlib.Core.Path.{_≡_, sym, ap, _∙_}
-use Rattle.search.proofs.Laws.{not-yes, not-no}
+use Rattle.search.proofs.Booleans.{not-out, not-no}
 use Rattle.search.specs.Tests.{must}
 use borrow.Author.Tests.{eq-eqb, ne-eqb, le-leb, lt-leb}
-use Rattle.rules.specs.Rules.{settleTo}
+use Rattle.protocol.specs.Rules.{settleTo}
 use borrow.Author.Needs.{needs}
 use Rattle.rules.proofs.settling.settle_to.Statement.{statement}
 use Rattle.rules.proofs.settling.settle_to.Tie as tie
@@ -28,7 +28,7 @@ drop-entry-requires c κs = search needs
 
 returns-2 : tie.Need-returns-2
 unfolding settleTo must
-returns-2 c = simp (c .drop-entry .ensures, ne-eqb _ _ (c .before .before .before .before .before .if1 .left), ← c .before .before .same-digest .ensures, not-yes (c .before .before .same-digest .result) (c .before .if2 .taken))
+returns-2 c = simp (c .drop-entry .ensures, ne-eqb _ _ (c .before .before .before .before .before .if1 .left), ← c .before .before .same-digest .ensures, not-out (c .before .before .same-digest .result) (c .before .if2 .taken))
 
 at-requires : tie.Need-at-requires
 at-requires c κs = search needs

@@ -1,8 +1,8 @@
 use mathlib.Core.Path.{_≡_, sym, ap, _∙_}
-use Rattle.search.proofs.Laws.{not-yes, not-no}
+use Rattle.search.proofs.Booleans.{not-out, not-no}
 use Rattle.search.specs.Tests.{must}
 use borrow.Author.Tests.{lt-ltb, le-ltb}
-use Rattle.rules.specs.Rules.{requestOf}
+use Rattle.protocol.specs.Rules.{requestOf}
 use borrow.Author.Needs.{needs}
 use Rattle.rules.proofs.storing.request.Statement.{statement}
 use Rattle.rules.proofs.storing.request.Tie as tie

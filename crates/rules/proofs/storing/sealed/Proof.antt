@@ -1,12 +1,12 @@
-use Rattle.digest.specs.Sha256.{digestOf}
+use Rattle.fips180.specs.Sha256.{digestOf}
 use mathlib.Core.Path.{_≡_, sym, ap, _∙_}
 use mathlib.Core.List.{List}
 use Prim.Native.Nat.{ℕ, _≤_}
 use native.Mathlib.Omega.{arith}
 use lib.ListN.{length}
-use Rattle.digest.specs.declared.Digest.{Digest}
+use Rattle.fips180.specs.declared.Digest.{Digest}
 use Rattle.digest.proofs.Short.{short-digest}
-use Rattle.rules.specs.Rules.{requestFrom}
+use Rattle.protocol.specs.Rules.{requestFrom}
 use borrow.Author.Needs.{needs}
 use Rattle.rules.proofs.storing.sealed.Statement.{statement}
 use Rattle.rules.proofs.storing.sealed.Tie as tie

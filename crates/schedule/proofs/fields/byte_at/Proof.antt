@@ -1,6 +1,6 @@
 use mathlib.Core.Path.{sym}
 use native.Mathlib.Omega.{arith}
-use Rattle.world.proofs.Lists.{getD-out}
+use Rattle.search.proofs.Lists.{getD-out}
 use borrow.Author.Needs.{needs}
 use Rattle.schedule.proofs.fields.byte_at.Statement.{statement}
 use Rattle.schedule.proofs.fields.byte_at.Tie as tie

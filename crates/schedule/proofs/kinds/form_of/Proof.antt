@@ -1,5 +1,7 @@
-use borrow.Author.Tests.{ne-eqb}
-use Rattle.schedule.specs.Records.{formOf}
+use mathlib.Core.Path.{sym}
+use native.Mathlib.Omega.{arith}
+use Rattle.format.proofs.Forms.{no-kind, later}
+use Rattle.format.specs.Records.{formOf}
 use Rattle.schedule.proofs.kinds.form_of.Statement.{statement}
 use Rattle.schedule.proofs.kinds.form_of.Tie as tie
 
@@ -48,10 +50,9 @@ unfolding formOf
 returns-11 c = rw (c .match .keys11)
 
 returns-12 : tie.Need-returns-12
-unfolding formOf
 returns-12 c =
     let r = c .match .rest in
-    rw (ne-eqb _ _ (r .0 .0 .0 .0 .0 .0 .0 .0 .0 .0 .1), ne-eqb _ _ (r .0 .0 .0 .0 .0 .0 .0 .0 .0 .1), ne-eqb _ _ (r .0 .0 .0 .0 .0 .0 .0 .0 .1), ne-eqb _ _ (r .0 .0 .0 .0 .0 .0 .0 .1), ne-eqb _ _ (r .0 .0 .0 .0 .0 .0 .1), ne-eqb _ _ (r .0 .0 .0 .0 .0 .1), ne-eqb _ _ (r .0 .0 .0 .0 .1), ne-eqb _ _ (r .0 .0 .0 .1), ne-eqb _ _ (r .0 .0 .1), ne-eqb _ _ (r .0 .1))
+    sym (no-kind _ (later (later (later (later (later (later (later (later (later (later (later {n = 0} (omega arith) (r .1)) (r .0 .0 .0 .0 .0 .0 .0 .0 .0 .0 .1)) (r .0 .0 .0 .0 .0 .0 .0 .0 .0 .1)) (r .0 .0 .0 .0 .0 .0 .0 .0 .1)) (r .0 .0 .0 .0 .0 .0 .0 .1)) (r .0 .0 .0 .0 .0 .0 .1)) (r .0 .0 .0 .0 .0 .1)) (r .0 .0 .0 .0 .1)) (r .0 .0 .0 .1)) (r .0 .0 .1)) (r .0 .1)))
 
 pub form-of-spec : {M : Type 1} → statement M
 form-of-spec =

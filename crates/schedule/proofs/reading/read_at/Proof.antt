@@ -1,5 +1,5 @@
 use borrow.Author.Tests.{le-leb, lt-leb}
-use Rattle.schedule.specs.Records.{readBy, readAt}
+use Rattle.format.specs.Records.{readBy, readAt}
 use borrow.Author.Needs.{needs}
 use Rattle.schedule.proofs.reading.read_at.Statement.{statement}
 use Rattle.schedule.proofs.reading.read_at.Tie as tie

@@ -1,8 +1,8 @@
 use borrow.Author.Tests.{le-leb, lt-leb}
 use Rattle.search.specs.Tests.{must}
-use Rattle.search.proofs.Laws.{not-yes, not-no}
-use Rattle.schedule.specs.Judging.{judged, recordsJudged}
-use Rattle.schedule.proofs.Reader.{no-start, empty-start}
+use Rattle.search.proofs.Booleans.{not-out, not-no}
+use Rattle.format.specs.Judging.{judged, recordsJudged}
+use Rattle.format.proofs.Reader.{no-start, empty-start}
 use borrow.Author.Needs.{needs}
 use Rattle.schedule.proofs.scanning.judge.Statement.{statement}
 use Rattle.schedule.proofs.scanning.judge.Tie as tie
@@ -62,7 +62,7 @@ is-good-requires c κs = search needs
 
 returns-6 : tie.Need-returns-6
 unfolding judged must recordsJudged
-returns-6 c = rw (le-leb _ _ (c .before .before .before .before .before .before .before .before .before .before .before .before .before .before .before .if1 .left), ← c .before .before .before .before .before .before .before .before .before .before .before .before .form-of .ensures, c .before .before .before .before .before .before .before .before .before .before .body .given .1, le-leb _ _ (c .before .before .before .before .before .before .before .before .if3 .left), ← c .before .before .before .before .before .before .before .scan .ensures, c .before .before .before .before .before .scanned .given .1, ← c .before .before .before .byte-at .ensures, ← c .before .before .byte-at2 .ensures, ← c .before .is-good .ensures, not-yes (c .before .is-good .result) (c .if4 .taken))
+returns-6 c = rw (le-leb _ _ (c .before .before .before .before .before .before .before .before .before .before .before .before .before .before .before .if1 .left), ← c .before .before .before .before .before .before .before .before .before .before .before .before .form-of .ensures, c .before .before .before .before .before .before .before .before .before .before .body .given .1, le-leb _ _ (c .before .before .before .before .before .before .before .before .if3 .left), ← c .before .before .before .before .before .before .before .scan .ensures, c .before .before .before .before .before .scanned .given .1, ← c .before .before .before .byte-at .ensures, ← c .before .before .byte-at2 .ensures, ← c .before .is-good .ensures, not-out (c .before .is-good .result) (c .if4 .taken))
 
 returns-7 : tie.Need-returns-7
 unfolding judged must recordsJudged

@@ -1,12 +1,12 @@
-use Rattle.schedule.specs.declared.reading.Read.{Read}
-use Rattle.schedule.specs.Judging.{ended}
-use Rattle.schedule.proofs.Reader.{no-record}
+use Rattle.format.specs.declared.reading.Read.{Read}
+use Rattle.format.specs.Judging.{ended}
+use Rattle.format.proofs.Reader.{no-record}
 use borrow.Author.Needs.{needs}
 use mathlib.Core.Path.{_≡_, sym, ap, _∙_}
 use Prim.Native.Nat.{_+_, _-_}
 use native.Mathlib.Omega.{arith}
 use lib.ListN.{length}
-use Rattle.schedule.proofs.Reader.{Scanning, Known, known, scan-start, scan-on, scan-ends, isRecord}
+use Rattle.format.proofs.Reader.{Scanning, Known, known, scan-start, scan-on, scan-ends, isRecord}
 use Rattle.schedule.proofs.scanning.scan.Statement.{statement}
 use Rattle.schedule.proofs.scanning.scan.Tie as tie
 

@@ -1,5 +1,5 @@
 use borrow.Author.Tests.{eq-eqb, ne-eqb}
-use Rattle.soundness.specs.Sound.{entrySound}
+use Rattle.protocol.specs.Sound.{entrySound}
 use borrow.Author.Needs.{needs}
 use Rattle.soundness.proofs.entries.entry_sound.Statement.{statement}
 use Rattle.soundness.proofs.entries.entry_sound.Tie as tie

@@ -1,22 +1,22 @@
-use Rattle.soundness.proofs.Seats.{seated}
+use Rattle.world.proofs.Seats.{seated}
 use borrow.Author.Needs.{needs}
 use Prim.Native.Nat.{ℕ, _-_}
 use native.Mathlib.Omega.{arith}
-use Rattle.search.proofs.Laws.{Kept, kept-none, kept-all, kept-tested, kept-failed}
+use Rattle.search.proofs.Laws.{Held, held-none, held-all, held-tested, held-failed}
 use Rattle.world.specs.Hold.{entryAt}
-use Rattle.soundness.specs.Names.{tableOf}
-use Rattle.soundness.specs.Sound.{entrySound, holdSound}
+use Rattle.protocol.specs.Names.{tableOf}
+use Rattle.protocol.specs.Sound.{entrySound, holdSound}
 use Rattle.soundness.proofs.entries.hold_sound.Statement.{statement}
 use Rattle.soundness.proofs.entries.hold_sound.Tie as tie
 
 abbrev Inv-loop : tie.InvT-loop
-Inv-loop roster stored numbered server tables h k₀ k = Kept (λ (i : ℕ). entrySound roster stored numbered server (tableOf tables (entryAt h i .sender)) (entryAt h i)) 64 k
+Inv-loop roster stored numbered server tables h k₀ k = Held (λ (i : ℕ). entrySound roster stored numbered server (tableOf tables (entryAt h i .sender)) (entryAt h i)) 64 k
 
 abbrev μ-loop : tie.MeasureT-loop
 μ-loop roster stored numbered server tables h k₀ k = 64 - k
 
 loop-holds : tie.Need-loop-holds Inv-loop μ-loop
-loop-holds c = kept-none _ _
+loop-holds c = held-none _ _
 
 mul-e : tie.Need-mul-e Inv-loop μ-loop
 mul-e c = search needs
@@ -43,15 +43,15 @@ loop-less : tie.Need-loop-less Inv-loop μ-loop
 loop-less c = omega arith
 
 loop-again : tie.Need-loop-again Inv-loop μ-loop
-loop-again c = kept-tested _ _ _ (c .before .entry-sound .result) (omega arith) (rw (c .before .entry-sound .ensures, c .before .before .before .seat .ensures)) (c .if2 .left) (c .before .before .before .before .before .before .loop .inv)
+loop-again c = held-tested _ _ _ (c .before .entry-sound .result) (omega arith) (rw (c .before .entry-sound .ensures, c .before .before .before .seat .ensures)) (c .if2 .left) (c .before .before .before .before .before .before .loop .inv)
 
 returns : tie.Need-returns Inv-loop μ-loop
 unfolding holdSound
-returns c = kept-all _ _ _ (c .if1 .taken) (c .before .loop .inv)
+returns c = held-all _ _ _ (c .if1 .taken) (c .before .loop .inv)
 
 returns-2 : tie.Need-returns-2 Inv-loop μ-loop
 unfolding holdSound
-returns-2 c = kept-failed _ _ _ (c .before .entry-sound .result) (omega arith) (rw (c .before .entry-sound .ensures, c .before .before .before .seat .ensures)) (c .if2 .taken) (c .before .before .before .before .before .before .loop .inv)
+returns-2 c = held-failed _ _ _ (c .before .entry-sound .result) (omega arith) (rw (c .before .entry-sound .ensures, c .before .before .before .seat .ensures)) (c .if2 .taken) (c .before .before .before .before .before .before .loop .inv)
 
 pub hold-sound-spec : {M : Type 1} → statement M
 hold-sound-spec =

@@ -1,5 +1,5 @@
 use borrow.Author.Tests.{eq-eqb, ne-eqb}
-use Rattle.soundness.specs.Sound.{stageSound}
+use Rattle.protocol.specs.Sound.{stageSound}
 use Rattle.soundness.proofs.entries.stage_sound.Statement.{statement}
 use Rattle.soundness.proofs.entries.stage_sound.Tie as tie
 

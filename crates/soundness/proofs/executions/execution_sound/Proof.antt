@@ -1,4 +1,4 @@
-use Rattle.soundness.specs.Sound.{executionSound}
+use Rattle.protocol.specs.Sound.{executionSound}
 use borrow.Author.Needs.{needs}
 use Rattle.soundness.proofs.executions.execution_sound.Statement.{statement}
 use Rattle.soundness.proofs.executions.execution_sound.Tie as tie

@@ -1,6 +1,6 @@
 use borrow.Author.Needs.{needs}
 use borrow.Author.Tests.{le-leb, lt-leb}
-use Rattle.soundness.specs.Sound.{executionsSound}
+use Rattle.protocol.specs.Sound.{executionsSound}
 use Rattle.soundness.proofs.executions.executions_sound.Statement.{statement}
 use Rattle.soundness.proofs.executions.executions_sound.Tie as tie
 

@@ -1,13 +1,13 @@
 use borrow.Author.Needs.{needs}
 use Prim.Native.Nat.{ℕ, _-_}
 use native.Mathlib.Omega.{arith}
-use Rattle.search.proofs.Laws.{Kept, kept-none, kept-all, kept-tested, kept-failed}
-use Rattle.soundness.specs.Sound.{newId}
+use Rattle.search.proofs.Laws.{Held, held-none, held-all, held-tested, held-failed}
+use Rattle.protocol.specs.Sound.{newId}
 use Rattle.soundness.proofs.executions.keys_differ.Statement.{statement}
 use Rattle.soundness.proofs.executions.keys_differ.Tie as tie
 
 abbrev Inv-loop : tie.InvT-loop
-Inv-loop t count k₀ k = Kept (λ (i : ℕ). newId t i) (t .count) k
+Inv-loop t count k₀ k = Held (λ (i : ℕ). newId t i) (t .count) k
 
 abbrev μ-loop : tie.MeasureT-loop
 μ-loop t count k₀ k = t .count - k
@@ -16,7 +16,7 @@ cast-count : tie.Need-cast-count Inv-loop μ-loop
 cast-count c = search needs
 
 loop-holds : tie.Need-loop-holds Inv-loop μ-loop
-loop-holds c = kept-none _ _
+loop-holds c = held-none _ _
 
 new-id-requires : tie.Need-new-id-requires Inv-loop μ-loop
 new-id-requires c κs = search needs
@@ -28,13 +28,13 @@ loop-less : tie.Need-loop-less Inv-loop μ-loop
 loop-less c = search needs
 
 loop-again : tie.Need-loop-again Inv-loop μ-loop
-loop-again c = kept-tested _ _ _ _ (omega arith) (c .before .new-id .ensures) (c .if2 .left) (c .before .before .before .loop .inv)
+loop-again c = held-tested _ _ _ _ (omega arith) (c .before .new-id .ensures) (c .if2 .left) (c .before .before .before .loop .inv)
 
 returns : tie.Need-returns Inv-loop μ-loop
-returns c = kept-all _ _ _ (c .if1 .taken) (c .before .loop .inv)
+returns c = held-all _ _ _ (c .if1 .taken) (c .before .loop .inv)
 
 returns-2 : tie.Need-returns-2 Inv-loop μ-loop
-returns-2 c = kept-failed _ _ _ _ (omega arith) (c .before .new-id .ensures) (c .if2 .taken) (c .before .before .before .loop .inv)
+returns-2 c = held-failed _ _ _ _ (omega arith) (c .before .new-id .ensures) (c .if2 .taken) (c .before .before .before .loop .inv)
 
 pub keys-differ-spec : {M : Type 1} → statement M
 keys-differ-spec =

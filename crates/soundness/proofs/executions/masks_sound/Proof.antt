@@ -1,4 +1,4 @@
-use Rattle.soundness.specs.Sound.{masksSound}
+use Rattle.protocol.specs.Sound.{masksSound}
 use borrow.Author.Needs.{needs}
 use Rattle.soundness.proofs.executions.masks_sound.Statement.{statement}
 use Rattle.soundness.proofs.executions.masks_sound.Tie as tie

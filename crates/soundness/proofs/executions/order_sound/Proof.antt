@@ -1,5 +1,5 @@
 use borrow.Author.Tests.{eq-eqb, ne-eqb}
-use Rattle.soundness.specs.Sound.{orderSound}
+use Rattle.protocol.specs.Sound.{orderSound}
 use borrow.Author.Needs.{needs}
 use Rattle.soundness.proofs.executions.order_sound.Statement.{statement}
 use Rattle.soundness.proofs.executions.order_sound.Tie as tie

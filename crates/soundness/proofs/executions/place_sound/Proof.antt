@@ -1,5 +1,5 @@
 use borrow.Author.Tests.{lt-ltb, le-ltb}
-use Rattle.soundness.specs.Sound.{placeSound}
+use Rattle.protocol.specs.Sound.{placeSound}
 use borrow.Author.Needs.{needs}
 use Rattle.soundness.proofs.executions.place_sound.Statement.{statement}
 use Rattle.soundness.proofs.executions.place_sound.Tie as tie

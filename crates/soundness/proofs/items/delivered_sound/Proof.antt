@@ -1,4 +1,4 @@
-use Rattle.soundness.specs.Sound.{deliveredSound}
+use Rattle.protocol.specs.Sound.{deliveredSound}
 use borrow.Author.Needs.{needs}
 use Rattle.soundness.proofs.items.delivered_sound.Statement.{statement}
 use Rattle.soundness.proofs.items.delivered_sound.Tie as tie

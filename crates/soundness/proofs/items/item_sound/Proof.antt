@@ -1,5 +1,5 @@
 use borrow.Author.Tests.{lt-ltb, le-ltb}
-use Rattle.soundness.specs.Sound.{itemSound}
+use Rattle.protocol.specs.Sound.{itemSound}
 use borrow.Author.Needs.{needs}
 use Rattle.soundness.proofs.items.item_sound.Statement.{statement}
 use Rattle.soundness.proofs.items.item_sound.Tie as tie

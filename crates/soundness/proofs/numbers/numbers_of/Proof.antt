@@ -3,9 +3,9 @@ use mathlib.Core.Path.{_≡_}
 use Prim.Native.Nat.{ℕ, _-_, _/_, _≤_, _<_}
 use native.Mathlib.Omega.{arith}
 use lib.ListN.{length, getD, length-set}
-use Rattle.soundness.specs.Sound.{numberAt}
+use Rattle.protocol.specs.Sound.{numberAt}
 use Rattle.soundness.proofs.Filled.{filled-more}
-use Rattle.soundness.proofs.Seats.{seat-own}
+use Rattle.world.proofs.Seats.{seat-own}
 use Rattle.soundness.proofs.numbers.numbers_of.Statement.{statement}
 use Rattle.soundness.proofs.numbers.numbers_of.Tie as tie
 

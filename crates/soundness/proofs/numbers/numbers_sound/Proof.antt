@@ -1,4 +1,4 @@
-use Rattle.soundness.specs.Sound.{numberAt, numbersSound}
+use Rattle.protocol.specs.Sound.{numberAt, numbersSound}
 use Rattle.soundness.proofs.Filled.{filled-once}
 use borrow.Author.Needs.{needs}
 use Prim.Native.Nat.{ℕ, _-_, _+_}
@@ -8,12 +8,12 @@ use borrow.Author.Tests.{le-leb, lt-leb}
 use lib.Dec.{eqb}
 use lib.ListN.{getD}
 use Rattle.search.specs.Search.{every, count}
-use Rattle.search.proofs.Laws.{Kept, kept-none, kept-all, kept-tested, kept-failed}
+use Rattle.search.proofs.Laws.{Held, held-none, held-all, held-tested, held-failed}
 use Rattle.soundness.proofs.numbers.numbers_sound.Statement.{statement}
 use Rattle.soundness.proofs.numbers.numbers_sound.Tie as tie
 
 abbrev Inv-loop : tie.InvT-loop
-Inv-loop numbered numbers k₀ k = Kept (λ (j : ℕ). eqb (count (λ (i : ℕ). eqb (getD numbers i 0) (j + 1)) 128) 1) numbered k
+Inv-loop numbered numbers k₀ k = Held (λ (j : ℕ). eqb (count (λ (i : ℕ). eqb (getD numbers i 0) (j + 1)) 128) 1) numbered k
 
 abbrev μ-loop : tie.MeasureT-loop
 μ-loop numbered numbers k₀ k = numbered - k
@@ -26,7 +26,7 @@ numbers-of-requires : tie.Need-numbers-of-requires Inv-loop μ-loop
 numbers-of-requires c κs = search needs
 
 loop-holds : tie.Need-loop-holds Inv-loop μ-loop
-loop-holds c = kept-none _ _
+loop-holds c = held-none _ _
 
 add-times : tie.Need-add-times Inv-loop μ-loop
 add-times c = search needs
@@ -41,7 +41,7 @@ loop-less : tie.Need-loop-less Inv-loop μ-loop
 loop-less c = search needs
 
 loop-again : tie.Need-loop-again Inv-loop μ-loop
-loop-again c = kept-tested _ _ _ (eqb (c .before .times .result) 1) (omega arith) (ap (λ (n : ℕ). eqb n 1) (c .before .times .ensures)) (c .if3 .left) (c .before .before .before .loop .inv)
+loop-again c = held-tested _ _ _ (eqb (c .before .times .result) 1) (omega arith) (ap (λ (n : ℕ). eqb n 1) (c .before .times .ensures)) (c .if3 .left) (c .before .before .before .loop .inv)
 
 -- the numbers that were taken out are those of the executions
 once : (c : tie.After-numbers-of Inv-loop μ-loop)
@@ -51,11 +51,11 @@ once c =
     rw (le-leb _ _ (c .before .if1 .left)) (filled-once (λ (i : ℕ). numberAt (c .before .before .args .tables) i) (c .numbers-of .result) 128 (c .before .before .args .numbered) (c .numbers-of .ensures))
 
 returns-2 : tie.Need-returns-2 Inv-loop μ-loop
-returns-2 c = kept-all _ _ _ (c .if2 .taken) (c .before .loop .inv) ∙ once (c .before .before)
+returns-2 c = held-all _ _ _ (c .if2 .taken) (c .before .loop .inv) ∙ once (c .before .before)
 
 returns-3 : tie.Need-returns-3 Inv-loop μ-loop
 returns-3 c =
-    kept-failed _ _ _ (eqb (c .before .times .result) 1) (omega arith) (ap (λ (n : ℕ). eqb n 1) (c .before .times .ensures)) (c .if3 .taken) (c .before .before .before .loop .inv) ∙ once (c .before .before .before .before)
+    held-failed _ _ _ (eqb (c .before .times .result) 1) (omega arith) (ap (λ (n : ℕ). eqb n 1) (c .before .times .ensures)) (c .if3 .taken) (c .before .before .before .loop .inv) ∙ once (c .before .before .before .before)
 
 pub numbers-sound-spec : {M : Type 1} → statement M
 numbers-sound-spec =

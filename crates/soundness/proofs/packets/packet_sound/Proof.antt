@@ -1,5 +1,5 @@
-use Rattle.search.proofs.Laws.{not-yes, not-no}
-use Rattle.soundness.specs.Sound.{packetSound}
+use Rattle.search.proofs.Booleans.{not-out, not-no}
+use Rattle.protocol.specs.Sound.{packetSound}
 use borrow.Author.Needs.{needs}
 use Rattle.soundness.proofs.packets.packet_sound.Statement.{statement}
 use Rattle.soundness.proofs.packets.packet_sound.Tie as tie
@@ -9,7 +9,7 @@ zero-packet-requires c κs = search needs
 
 returns : tie.Need-returns
 unfolding packetSound
-returns c = rw (c .zero-packet .ensures, not-yes (c .before .before .before .args .p .there) (c .before .if1 .taken))
+returns c = rw (c .zero-packet .ensures, not-out (c .before .before .before .args .p .there) (c .before .if1 .taken))
 
 member-requires : tie.Need-member-requires
 member-requires c κs = search needs

@@ -3,14 +3,14 @@ use Prim.Native.Nat.{ℕ, _-_}
 use native.Mathlib.Omega.{arith}
 use mathlib.Core.Path.{sym, ap, _∙_}
 use mathlib.Core.Bool.{not}
-use Rattle.search.proofs.Laws.{Kept, kept-none, kept-more, kept-not, kept-all}
+use Rattle.search.proofs.Laws.{Held, held-none, held-more, held-not, held-all}
 use Rattle.world.specs.Requests.{requestAt, sameDigest}
-use Rattle.soundness.specs.Sound.{newDigest}
+use Rattle.protocol.specs.Sound.{newDigest}
 use Rattle.soundness.proofs.requests.new_digest.Statement.{statement}
 use Rattle.soundness.proofs.requests.new_digest.Tie as tie
 
 abbrev Inv-loop : tie.InvT-loop
-Inv-loop k q digest j₀ j = Kept (λ (i : ℕ). not (sameDigest (requestAt q i .digest) digest)) k j
+Inv-loop k q digest j₀ j = Held (λ (i : ℕ). not (sameDigest (requestAt q i .digest) digest)) k j
 
 abbrev μ-loop : tie.MeasureT-loop
 μ-loop k q digest j₀ j = k - j
@@ -22,7 +22,7 @@ element-copy-out-x : tie.Need-element-copy-out-x Inv-loop μ-loop
 element-copy-out-x c = search needs
 
 loop-holds : tie.Need-loop-holds Inv-loop μ-loop
-loop-holds c = kept-none _ _
+loop-holds c = held-none _ _
 
 mul-has-digest : tie.Need-mul-has-digest Inv-loop μ-loop
 mul-has-digest c = search needs
@@ -40,15 +40,15 @@ loop-less : tie.Need-loop-less Inv-loop μ-loop
 loop-less c = omega arith
 
 loop-again : tie.Need-loop-again Inv-loop μ-loop
-loop-again c = kept-more _ _ _ (omega arith) (ap not (sym (c .before .has-digest .ensures) ∙ c .if2 .left)) (c .before .before .before .before .loop .inv)
+loop-again c = held-more _ _ _ (omega arith) (ap not (sym (c .before .has-digest .ensures) ∙ c .if2 .left)) (c .before .before .before .before .loop .inv)
 
 returns : tie.Need-returns Inv-loop μ-loop
 unfolding newDigest
-returns c = kept-all _ _ _ (c .if1 .taken) (c .before .loop .inv)
+returns c = held-all _ _ _ (c .if1 .taken) (c .before .loop .inv)
 
 returns-2 : tie.Need-returns-2 Inv-loop μ-loop
 unfolding newDigest
-returns-2 c = kept-not _ _ _ (omega arith) (ap not (sym (c .before .has-digest .ensures) ∙ c .if2 .taken)) (c .before .before .before .before .loop .inv)
+returns-2 c = held-not _ _ _ (omega arith) (ap not (sym (c .before .has-digest .ensures) ∙ c .if2 .taken)) (c .before .before .before .before .loop .inv)
 
 pub new-digest-spec : {M : Type 1} → statement M
 new-digest-spec =

@@ -2,8 +2,8 @@ use mathlib.Core.Path.{ap, _∙_}
 use Prim.Native.Nat.{_≤_}
 use native.Mathlib.Omega.{arith}
 use lib.ListN.{length}
-use Rattle.digest.specs.Sha256.{digestOf}
-use Rattle.digest.specs.declared.Digest.{Digest}
+use Rattle.fips180.specs.Sha256.{digestOf}
+use Rattle.fips180.specs.declared.Digest.{Digest}
 use Rattle.digest.proofs.Short.{short-digest}
 use borrow.Author.Needs.{needs}
 use Rattle.soundness.proofs.requests.own_digest.Statement.{statement}

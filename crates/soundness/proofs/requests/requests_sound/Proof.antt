@@ -1,5 +1,5 @@
 use borrow.Author.Tests.{le-leb, lt-leb}
-use Rattle.soundness.specs.Sound.{requestsSound}
+use Rattle.protocol.specs.Sound.{requestsSound}
 use borrow.Author.Needs.{needs}
 use Rattle.soundness.proofs.requests.requests_sound.Statement.{statement}
 use Rattle.soundness.proofs.requests.requests_sound.Tie as tie

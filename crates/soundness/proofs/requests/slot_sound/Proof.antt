@@ -1,5 +1,5 @@
 use borrow.Author.Tests.{lt-ltb, le-ltb}
-use Rattle.soundness.specs.Sound.{slotSound}
+use Rattle.protocol.specs.Sound.{slotSound}
 use borrow.Author.Needs.{needs}
 use Rattle.soundness.proofs.requests.slot_sound.Statement.{statement}
 use Rattle.soundness.proofs.requests.slot_sound.Tie as tie

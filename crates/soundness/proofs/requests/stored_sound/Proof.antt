@@ -1,4 +1,4 @@
-use Rattle.soundness.specs.Sound.{storedSound}
+use Rattle.protocol.specs.Sound.{storedSound}
 use borrow.Author.Needs.{needs}
 use Rattle.soundness.proofs.requests.stored_sound.Statement.{statement}
 use Rattle.soundness.proofs.requests.stored_sound.Tie as tie

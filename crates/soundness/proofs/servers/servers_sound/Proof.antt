@@ -2,21 +2,21 @@ use mathlib.Core.Path.{_≡_}
 use borrow.Author.Needs.{needs}
 use Prim.Native.Nat.{ℕ, _-_, _<_}
 use native.Mathlib.Omega.{arith}
-use Rattle.search.proofs.Laws.{Kept, kept-none, kept-all, kept-tested, kept-failed}
+use Rattle.search.proofs.Laws.{Held, held-none, held-all, held-tested, held-failed}
 use mathlib.Core.Bool.{_&&_}
-use Rattle.soundness.specs.Sound.{serverSound, serversSound}
-use Rattle.soundness.proofs.Seats.{seat-own}
+use Rattle.protocol.specs.Sound.{serverSound, serversSound}
+use Rattle.world.proofs.Seats.{seat-own}
 use Rattle.soundness.proofs.servers.servers_sound.Statement.{statement}
 use Rattle.soundness.proofs.servers.servers_sound.Tie as tie
 
 abbrev Inv-loop : tie.InvT-loop
-Inv-loop w roster numbered stored tables s₀ s = Kept (λ (i : ℕ). serverSound w i) 8 s
+Inv-loop w roster numbered stored tables s₀ s = Held (λ (i : ℕ). serverSound w i) 8 s
 
 abbrev μ-loop : tie.MeasureT-loop
 μ-loop w roster numbered stored tables s₀ s = 8 - s
 
 loop-holds : tie.Need-loop-holds Inv-loop μ-loop
-loop-holds c = kept-none _ _
+loop-holds c = held-none _ _
 
 cast-i : tie.Need-cast-i Inv-loop μ-loop
 cast-i c = omega arith
@@ -73,15 +73,15 @@ turn c =
     rw (seat-own (c .before .before .before .before .before .before .before .before .before .loop .s) h, c .before .before .before .before .before .before .executions-sound .ensures, c .before .before .before .before .outgoing-sound .ensures, c .before .before .hold-sound .ensures, c .delivered-sound .ensures)
 
 loop-again : tie.Need-loop-again Inv-loop μ-loop
-loop-again c = kept-tested _ _ _ _ (omega arith) (turn (c .before)) (c .if2 .left) (c .before .before .before .before .before .before .before .before .before .before .loop .inv)
+loop-again c = held-tested _ _ _ _ (omega arith) (turn (c .before)) (c .if2 .left) (c .before .before .before .before .before .before .before .before .before .before .loop .inv)
 
 returns : tie.Need-returns Inv-loop μ-loop
 unfolding serversSound
-returns c = kept-all _ _ _ (c .if1 .taken) (c .before .loop .inv)
+returns c = held-all _ _ _ (c .if1 .taken) (c .before .loop .inv)
 
 returns-2 : tie.Need-returns-2 Inv-loop μ-loop
 unfolding serversSound
-returns-2 c = kept-failed _ _ _ _ (omega arith) (turn (c .before)) (c .if2 .taken) (c .before .before .before .before .before .before .before .before .before .before .loop .inv)
+returns-2 c = held-failed _ _ _ _ (omega arith) (turn (c .before)) (c .if2 .taken) (c .before .before .before .before .before .before .before .before .before .before .loop .inv)
 
 pub servers-sound-spec : {M : Type 1} → statement M
 servers-sound-spec =

@@ -1,23 +1,23 @@
-use Rattle.soundness.proofs.Seats.{seated}
+use Rattle.world.proofs.Seats.{seated}
 use borrow.Author.Needs.{needs}
 use Prim.Native.Nat.{ℕ, _-_}
 use native.Mathlib.Omega.{arith}
 use mathlib.Core.Bool.{not}
-use Rattle.search.proofs.Laws.{Kept, kept-none, kept-more, kept-not, kept-all}
+use Rattle.search.proofs.Laws.{Held, held-none, held-more, held-not, held-all}
 use Rattle.world.specs.Hold.{entryAt}
-use Rattle.soundness.specs.Names.{tableOf}
-use Rattle.soundness.specs.Quiet.{stirs, holdQuiet}
+use Rattle.protocol.specs.Names.{tableOf}
+use Rattle.protocol.specs.Quiet.{stirs, holdQuiet}
 use Rattle.soundness.proofs.stillness.hold_quiet.Statement.{statement}
 use Rattle.soundness.proofs.stillness.hold_quiet.Tie as tie
 
 abbrev Inv-loop : tie.InvT-loop
-Inv-loop next tables h k₀ k = Kept (λ (i : ℕ). not (stirs (tableOf tables (entryAt h i .sender)) next (entryAt h i))) 64 k
+Inv-loop next tables h k₀ k = Held (λ (i : ℕ). not (stirs (tableOf tables (entryAt h i .sender)) next (entryAt h i))) 64 k
 
 abbrev μ-loop : tie.MeasureT-loop
 μ-loop next tables h k₀ k = 64 - k
 
 loop-holds : tie.Need-loop-holds Inv-loop μ-loop
-loop-holds c = kept-none _ _
+loop-holds c = held-none _ _
 
 mul-e : tie.Need-mul-e Inv-loop μ-loop
 mul-e c = search needs
@@ -44,15 +44,15 @@ loop-less : tie.Need-loop-less Inv-loop μ-loop
 loop-less c = omega arith
 
 loop-again : tie.Need-loop-again Inv-loop μ-loop
-loop-again c = kept-more _ _ _ (omega arith) (cc) (c .before .before .before .before .before .before .loop .inv)
+loop-again c = held-more _ _ _ (omega arith) (cc) (c .before .before .before .before .before .before .loop .inv)
 
 returns : tie.Need-returns Inv-loop μ-loop
 unfolding holdQuiet
-returns c = kept-all _ _ _ (c .if1 .taken) (c .before .loop .inv)
+returns c = held-all _ _ _ (c .if1 .taken) (c .before .loop .inv)
 
 returns-2 : tie.Need-returns-2 Inv-loop μ-loop
 unfolding holdQuiet
-returns-2 c = kept-not _ _ _ (omega arith) (cc) (c .before .before .before .before .before .before .loop .inv)
+returns-2 c = held-not _ _ _ (omega arith) (cc) (c .before .before .before .before .before .before .loop .inv)
 
 pub hold-quiet-spec : {M : Type 1} → statement M
 hold-quiet-spec =

@@ -1,8 +1,8 @@
 use native.Mathlib.Omega.{arith}
 use Rattle.search.specs.declared.Found.{Found}
 use mathlib.Core.Path.{sym, ap, _∙_}
-use Rattle.soundness.specs.Quiet.{isNumbered}
-use Rattle.soundness.proofs.Seats.{own-in}
+use Rattle.protocol.specs.Quiet.{isNumbered}
+use Rattle.protocol.proofs.Naming.{own-in}
 use borrow.Author.Needs.{needs}
 use Rattle.soundness.proofs.stillness.is_numbered.Statement.{statement}
 use Rattle.soundness.proofs.stillness.is_numbered.Tie as tie

@@ -1,4 +1,4 @@
-use Rattle.soundness.specs.Quiet.{stirs}
+use Rattle.protocol.specs.Quiet.{stirs}
 use borrow.Author.Needs.{needs}
 use Rattle.soundness.proofs.stillness.stirs.Statement.{statement}
 use Rattle.soundness.proofs.stillness.stirs.Tie as tie

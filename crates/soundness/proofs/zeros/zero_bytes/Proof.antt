@@ -4,19 +4,19 @@ use native.Mathlib.Omega.{arith}
 use borrow.Author.Tests.{eq-eqb, ne-eqb}
 use lib.Dec.{eqb}
 use lib.ListN.{length, getD}
-use Rattle.search.proofs.Laws.{Kept, kept-none, kept-more, kept-not, kept-all}
-use Rattle.soundness.specs.Zeros.{zeroBytes}
+use Rattle.search.proofs.Laws.{Held, held-none, held-more, held-not, held-all}
+use Rattle.protocol.specs.Zeros.{zeroBytes}
 use Rattle.soundness.proofs.zeros.zero_bytes.Statement.{statement}
 use Rattle.soundness.proofs.zeros.zero_bytes.Tie as tie
 
 abbrev Inv-loop : tie.InvT-loop
-Inv-loop s k₀ k = Kept (λ (i : ℕ). eqb (getD s i 0) 0) (length s) k
+Inv-loop s k₀ k = Held (λ (i : ℕ). eqb (getD s i 0) 0) (length s) k
 
 abbrev μ-loop : tie.MeasureT-loop
 μ-loop s k₀ k = length s - k
 
 loop-holds : tie.Need-loop-holds Inv-loop μ-loop
-loop-holds c = kept-none _ _
+loop-holds c = held-none _ _
 
 shared-slice-read-if2 : tie.Need-shared-slice-read-if2 Inv-loop μ-loop
 shared-slice-read-if2 c = search needs
@@ -28,15 +28,15 @@ loop-less : tie.Need-loop-less Inv-loop μ-loop
 loop-less c = search needs
 
 loop-again : tie.Need-loop-again Inv-loop μ-loop
-loop-again c = kept-more _ _ _ (omega arith) (eq-eqb _ _ (c .if2 .left)) (c .before .before .before .loop .inv)
+loop-again c = held-more _ _ _ (omega arith) (eq-eqb _ _ (c .if2 .left)) (c .before .before .before .loop .inv)
 
 returns : tie.Need-returns Inv-loop μ-loop
 unfolding zeroBytes
-returns c = kept-all _ _ _ (c .if1 .taken) (c .before .loop .inv)
+returns c = held-all _ _ _ (c .if1 .taken) (c .before .loop .inv)
 
 returns-2 : tie.Need-returns-2 Inv-loop μ-loop
 unfolding zeroBytes
-returns-2 c = kept-not _ _ _ (omega arith) (ne-eqb _ _ (c .if2 .taken)) (c .before .before .before .loop .inv)
+returns-2 c = held-not _ _ _ (omega arith) (ne-eqb _ _ (c .if2 .taken)) (c .before .before .before .loop .inv)
 
 pub zero-bytes-spec : {M : Type 1} → statement M
 zero-bytes-spec =

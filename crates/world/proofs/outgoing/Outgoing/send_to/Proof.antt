@@ -1,4 +1,4 @@
-use Rattle.search.proofs.Laws.{not-yes, not-no}
+use Rattle.search.proofs.Booleans.{not-out, not-no}
 use mathlib.Core.Path.{sym, _∙_}
 use borrow.Author.Needs.{needs}
 use Rattle.world.proofs.outgoing.Outgoing.send_to.Statement.{statement}
@@ -8,7 +8,7 @@ is-recipient-requires : tie.Need-is-recipient-requires
 is-recipient-requires c κs = search needs
 
 returns : tie.Need-returns
-returns c = rw (sym (c .before .is-recipient .ensures) ∙ not-yes _ (c .if1 .taken))
+returns c = rw (sym (c .before .is-recipient .ensures) ∙ not-out _ (c .if1 .taken))
 
 new-requires : tie.Need-new-requires
 new-requires c κs = search needs

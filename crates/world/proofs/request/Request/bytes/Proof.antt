@@ -5,7 +5,7 @@ use Prim.Native.Nat.{ℕ, _+_, _-_, _/_, _%_, _^_, _≤_}
 use native.Mathlib.Omega.{arith}
 use lib.ListN.{length, take, length-set}
 use lib.Seq.{take-all}
-use Rattle.digest.specs.Sha256.{be}
+use Rattle.fips180.specs.Sha256.{be}
 use Rattle.world.specs.declared.request.Request.{Request}
 use Rattle.world.specs.Requests.{requestBytes}
 use Rattle.world.proofs.Typed.{request-command}

@@ -1,9 +1,0 @@
-use borrow.Author.Needs.{needs}
-use Rattle.digest.proofs.word.lower0.Statement.{statement}
-use Rattle.digest.proofs.word.lower0.Tie as tie
-
-returns : tie.Need-returns
-returns c = search needs
-
-pub lower0-spec : {M : Type 1} → statement M
-lower0-spec = tie.close (tie.spec returns)

@@ -1,0 +1,4 @@
+pub mod Forms
+pub mod Reader
+pub mod Judged
+pub mod Unique

@@ -1,0 +1,8 @@
+// A whole schedule's fate.
+use crate::refusal::Refusal;
+
+// A schedule's fate: how many records it has behind the start, or why it is refused, and the offset.
+pub enum Verdict {
+    Accepted(usize),
+    Refused(Refusal, usize),
+}

@@ -1,0 +1,9 @@
+pub mod Answers
+pub mod Rules
+pub mod Steps
+pub mod Zeros
+pub mod Names
+pub mod Sound
+pub mod Quiet
+pub mod Runs
+pub mod Listing

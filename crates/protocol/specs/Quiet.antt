@@ -1,0 +1,51 @@
+-- Document 01, "Quiet": "no outgoing place holds a packet for a correct server, and no correct server has (even where its step would answer
+-- 9) a stage-one entry whose execution exists, a stage-two entry whose execution is numbered, or a stage-three entry with its next number."
+use Prim.Native.Nat.{ℕ}
+use mathlib.Core.Bool.{Bool, false, not, _&&_, _||_}
+use mathlib.Core.List.{List}
+use lib.Dec.{eqb}
+use Rattle.search.specs.declared.Found.{Found}
+use Rattle.search.specs.declared.Found.the-variants.{At, Nothing}
+use Rattle.search.specs.Search.{isFound, every}
+use Rattle.world.specs.declared.World.{World}
+use Rattle.world.specs.declared.execution.Executions.{Executions}
+use Rattle.world.specs.declared.outgoing.Outgoing.{Outgoing}
+use Rattle.world.specs.declared.hold.Entry.{Entry}
+use Rattle.world.specs.declared.hold.Hold.{Hold}
+use Rattle.world.specs.declared.roster.Roster.{Roster}
+use Rattle.world.specs.Sizes.{servers, outgoingPlaces, holdPlaces}
+use Rattle.world.specs.Roster.{correct}
+use Rattle.world.specs.Executions.{executionAt}
+use Rattle.world.specs.Outgoing.{packetAt}
+use Rattle.world.specs.Hold.{entryAt}
+use Rattle.world.specs.Delivered.{nextOf}
+use Rattle.world.specs.Boxes.{outgoingOf, holdOf, deliveredOf}
+use Rattle.protocol.specs.Names.{tableOf, ownExecution}
+
+-- no packet for a correct server
+unfoldable pub outgoingQuiet : Roster → Outgoing → Bool
+outgoingQuiet r o = every (λ (k : ℕ). not (packetAt o k .there && correct r (packetAt o k .to))) outgoingPlaces
+
+-- whether an execution that was looked for is numbered
+abbrev pub isNumbered : Executions → Found → Bool
+isNumbered t (At k) = not (eqb (executionAt t k .number) 0)
+isNumbered t Nothing = false
+
+-- an entry with which its server could go on, whose next number is given
+unfoldable pub stirs : Executions → ℕ → Entry → Bool
+stirs t next e =
+    (eqb (e .stage) 1 && isFound (ownExecution t e)) || (eqb (e .stage) 2 && isNumbered t (ownExecution t e))
+    || (eqb (e .stage) 3 && eqb (e .number) next)
+
+-- no entry of a server, whose next number is given, with which it could go on
+unfoldable pub holdQuiet : List Executions → ℕ → Hold → Bool
+holdQuiet ts next h = every (λ (k : ℕ). not (stirs (tableOf ts (entryAt h k .sender)) next (entryAt h k))) holdPlaces
+
+-- the boxes of one server
+unfoldable pub serverQuiet : World → ℕ → Bool
+serverQuiet w s =
+    outgoingQuiet (w .roster) (outgoingOf w s)
+    && (not (correct (w .roster) s) || holdQuiet (w .executions) (nextOf (deliveredOf w s)) (holdOf w s))
+
+unfoldable pub quiet : World → Bool
+quiet w = every (λ (s : ℕ). serverQuiet w s) servers

@@ -1,0 +1,225 @@
+-- Document 01, "Steps, with tests in order". Each rule is a definition over the boxes that its step touches; the words in quotes are the
+-- document's. A test is `must WHAT-HOLDS ANSWER-IF-NOT NEXT`.
+use Prim.Native.Nat.{ℕ, _+_}
+use mathlib.Core.Bool.{Bool, not, _&&_, _||_}
+use mathlib.Core.List.{List}
+use lib.Dec.{eqb, ltb, leb}
+use lib.ListN.{set, replicate}
+use Rattle.search.specs.declared.Found.{Found}
+use Rattle.search.specs.declared.Found.the-variants.{At, Nothing}
+use Rattle.search.specs.Search.{isFound}
+use Rattle.fips180.specs.Sha256.{digestOf}
+use Rattle.fips180.specs.Digest.{digestBytes}
+use Rattle.world.specs.declared.roster.Roster.{Roster}
+use Rattle.world.specs.declared.request.Request.{Request}
+use Rattle.world.specs.declared.request.Requests.{Requests}
+use Rattle.world.specs.declared.execution.Executions.{Executions}
+use Rattle.world.specs.declared.execution.Ordered.{Ordered}
+use Rattle.world.specs.declared.outgoing.Outgoing.{Outgoing}
+use Rattle.world.specs.declared.hold.Hold.{Hold}
+use Rattle.world.specs.declared.delivered.Delivered.{Delivered}
+use Rattle.world.specs.Sizes.{requestsMost, executionsMost}
+use Rattle.world.specs.Masks.{nobody, has}
+use Rattle.world.specs.Roster.{member, faulty, strays}
+use Rattle.world.specs.Requests.{requestBytes, sameDigest, knownDigest}
+use Rattle.world.specs.Executions.{executionAt, executionOf, opened, called, ordered}
+use Rattle.world.specs.Outgoing.{packetAt, packetFor, freePlace, freePlaces, posted, cleared, needed, sent}
+use Rattle.world.specs.Hold.{entryOf, entryAt, holding, readyPlace, vacancy, put, freed, kept}
+use Rattle.world.specs.Delivered.{nextOf, appended}
+use Rattle.protocol.specs.declared.answer.Answer.{Answer}
+use Rattle.protocol.specs.declared.answer.Answer.the-variants.{Done, Dropped, Wait, Dismissed, BadServer, WrongSide, NoSuch, BadField, SameDigest, NoRoom, Quota, Unknown, WrongDigest, Recall}
+use Rattle.protocol.specs.declared.boxes.Boxes.{Boxes}
+use Rattle.protocol.specs.declared.boxes.Stepped.{Stepped}
+use Rattle.protocol.specs.declared.boxes.Requested.{Requested}
+use Rattle.search.specs.Tests.{must}
+
+-- an answer beside the boxes. "Only 0 DONE and 1 DROPPED change the world": every other answer below stands beside the boxes as they were.
+abbrev pub answered : Answer → Boxes → Stepped
+answered a b = record { answer = a; boxes = b }
+
+-- the boxes with one of them changed
+abbrev pub withHold : Boxes → Hold → Boxes
+withHold b h = record { numbered = b .numbered; stored = b .stored; request = b .request; executions = b .executions; outgoing = b .outgoing; hold = h; delivered = b .delivered }
+
+abbrev pub withOutgoing : Boxes → Outgoing → Boxes
+withOutgoing b o = record { numbered = b .numbered; stored = b .stored; request = b .request; executions = b .executions; outgoing = o; hold = b .hold; delivered = b .delivered }
+
+abbrev pub withDelivered : Boxes → Delivered → Boxes
+withDelivered b d = record { numbered = b .numbered; stored = b .stored; request = b .request; executions = b .executions; outgoing = b .outgoing; hold = b .hold; delivered = d }
+
+abbrev pub withExecutions : Boxes → Executions → ℕ → Boxes
+withExecutions b t m = record { numbered = m; stored = b .stored; request = b .request; executions = t; outgoing = b .outgoing; hold = b .hold; delivered = b .delivered }
+
+-- the orderer: an execution made, and a call recorded at the execution of place k
+abbrev pub madeBy : Boxes → Ordered → Boxes
+madeBy b o = withExecutions b (record { table = set (b .executions .table) (b .executions .count) (o .execution); count = b .executions .count + 1 }) (o .numbered)
+
+unfoldable pub made : Roster → ℕ → ℕ → List ℕ → Boxes → Boxes
+made r sender id digest b = madeBy b (ordered r (opened sender id digest) (b .numbered))
+
+abbrev pub recordedBy : Boxes → ℕ → Ordered → Boxes
+recordedBy b k o = withExecutions b (record { table = set (b .executions .table) k (o .execution); count = b .executions .count }) (o .numbered)
+
+unfoldable pub recorded : Roster → ℕ → ℕ → Boxes → Boxes
+recorded r server k b = recordedBy b k (ordered r (called (executionAt (b .executions) k) server) (b .numbered))
+
+-- Request. "A seal bit at n or above: 7. Digest of the 30 bytes equals a stored one: 8. 128 stored: 9. Otherwise stored."
+abbrev pub bareRequest : ℕ → ℕ → ℕ → List ℕ → Request
+bareRequest client number seals command = record { number = number; client = client; seals = seals; command = command; digest = replicate digestBytes 0 }
+
+abbrev pub withDigest : Request → List ℕ → Request
+withDigest q d = record { number = q .number; client = q .client; seals = q .seals; command = q .command; digest = d }
+
+unfoldable pub requestFrom : ℕ → ℕ → ℕ → List ℕ → Request
+requestFrom client number seals command = let q = bareRequest client number seals command in withDigest q (digestOf (requestBytes q))
+
+abbrev pub storedWith : Answer → Requests → Requested
+storedWith a q = record { answer = a; requests = q }
+
+unfoldable pub requestOf : Roster → ℕ → ℕ → ℕ → List ℕ → Requests → Requested
+requestOf r client number seals command q =
+    let new = requestFrom client number seals command in
+    must (not (strays r seals)) (storedWith BadField q)
+    (must (not (knownDigest q (new .digest))) (storedWith SameDigest q)
+    (must (ltb (q .count) requestsMost) (storedWith NoRoom q)
+    (storedWith Done (record { slots = set (q .slots) (q .count) new; count = q .count + 1 }))))
+
+-- Multicast. "4, 5, 6. Own seal bit 0: 3. 16 executions of its own: 10. Fewer than n−1 free outgoing places, or hold full: 9. Otherwise the
+-- id is its count of executions plus one; the execution is made; an entry at stage two goes into its hold; one packet goes to each other
+-- server, recipients ascending."
+unfoldable pub multicastDone : Roster → ℕ → ℕ → Boxes → Boxes
+multicastDone r server slot b =
+    let id = b .executions .count + 1 in
+    withOutgoing (withHold (made r server id (b .request .digest) b) (kept (b .hold) (entryOf 2 server id slot 0)))
+    (sent r nobody server (record { id = id; sender = server; slot = slot }) (b .outgoing))
+
+abbrev pub roomy : Roster → ℕ → Boxes → Bool
+roomy r server b = leb (needed r nobody server) (freePlaces (b .outgoing)) && isFound (vacancy (b .hold))
+
+unfoldable pub multicastOf : Roster → ℕ → ℕ → Boxes → Stepped
+multicastOf r server slot b =
+    must (member r server) (answered BadServer b)
+    (must (not (faulty r server)) (answered WrongSide b)
+    (must (ltb slot (b .stored)) (answered NoSuch b)
+    (must (has (b .request .seals) server) (answered Dismissed b)
+    (must (ltb (b .executions .count) executionsMost) (answered Quota b)
+    (must (roomy r server b) (answered NoRoom b)
+    (answered Done (multicastDone r server slot b)))))))
+
+-- Arrive. "Origin: 4. Place: 6. Recipient faulty, or it holds an entry of equal sender, id and slot: place freed, 1. Hold full: 9, the
+-- packet stays. Otherwise the place is freed and an entry at stage one kept, 0."
+unfoldable pub arriveOf : Roster → ℕ → ℕ → Boxes → Stepped
+arriveOf r origin place b =
+    let p = packetAt (b .outgoing) place in
+    let rest = withOutgoing b (cleared (b .outgoing) place) in
+    must (member r origin) (answered BadServer b)
+    (must (p .there) (answered NoSuch b)
+    (must (not (faulty r (p .to) || holding (b .hold) (p .sender) (p .id) (p .slot))) (answered Dropped rest)
+    (must (isFound (vacancy (b .hold))) (answered NoRoom b)
+    (answered Done (withHold rest (kept (b .hold) (entryOf 1 (p .sender) (p .id) (p .slot) 0)))))))
+
+-- an entry at a later stage; and freed, which drops the step
+abbrev pub raised : ℕ → ℕ → ℕ → Boxes → Boxes
+raised place stage number b =
+    let e = entryAt (b .hold) place in withHold b (put (b .hold) place (entryOf stage (e .sender) (e .id) (e .slot) number))
+
+abbrev pub droppedAt : ℕ → Boxes → Stepped
+droppedAt place b = answered Dropped (withHold b (freed (b .hold) place))
+
+-- Propose (entry at stage one). "4, 5, 6. No such execution: 2. Server has called: entry freed, 1. Own seal bit 0: stage two, nothing told
+-- to the orderer, 0. Digest differs: entry freed, 1. Otherwise the call is recorded, the mask too while unnumbered; stage two, 0."
+unfoldable pub proposeTo : Roster → ℕ → ℕ → ℕ → Boxes → Stepped
+proposeTo r server place k b =
+    let x = executionAt (b .executions) k in
+    must (not (has (x .called) server)) (droppedAt place b)
+    (must (has (b .request .seals) server) (answered Done (raised place 2 0 b))
+    (must (sameDigest (b .request .digest) (x .digest)) (droppedAt place b)
+    (answered Done (recorded r server k (raised place 2 0 b)))))
+
+unfoldable pub proposeFound : Roster → ℕ → ℕ → Boxes → Found → Stepped
+proposeFound r server place b (At k) = proposeTo r server place k b
+proposeFound r server place b Nothing = answered Wait b
+
+unfoldable pub proposeOf : Roster → ℕ → ℕ → Boxes → Stepped
+proposeOf r server place b =
+    let e = entryAt (b .hold) place in
+    must (member r server) (answered BadServer b)
+    (must (not (faulty r server)) (answered WrongSide b)
+    (must (eqb (e .stage) 1) (answered NoSuch b)
+    (proposeFound r server place b (executionOf (b .executions) (e .id)))))
+
+-- Settle (entry at stage two). "4, 5, 6. No number: 2. Entry's digest is not the execution's: freed, 1. Server is not the sender: it needs
+-- one outgoing place for each server outside the final mask, itself excepted; too few: 9; else it sends there, ascending. Then stage three
+-- with the number, 0."
+unfoldable pub settleTo : Roster → ℕ → ℕ → ℕ → Boxes → Stepped
+settleTo r server place k b =
+    let e = entryAt (b .hold) place in
+    let x = executionAt (b .executions) k in
+    let third = raised place 3 (x .number) b in
+    must (not (eqb (x .number) 0)) (answered Wait b)
+    (must (sameDigest (b .request .digest) (x .digest)) (droppedAt place b)
+    (must (not (eqb (e .sender) server)) (answered Done third)
+    (must (leb (needed r (x .mask) server) (freePlaces (b .outgoing))) (answered NoRoom b)
+    (answered Done (withOutgoing third (sent r (x .mask) server (record { id = e .id; sender = e .sender; slot = e .slot }) (b .outgoing)))))))
+
+unfoldable pub settleFound : Roster → ℕ → ℕ → Boxes → Found → Stepped
+settleFound r server place b (At k) = settleTo r server place k b
+settleFound r server place b Nothing = answered Wait b
+
+unfoldable pub settleOf : Roster → ℕ → ℕ → Boxes → Stepped
+settleOf r server place b =
+    let e = entryAt (b .hold) place in
+    must (member r server) (answered BadServer b)
+    (must (not (faulty r server)) (answered WrongSide b)
+    (must (eqb (e .stage) 2) (answered NoSuch b)
+    (settleFound r server place b (executionOf (b .executions) (e .id)))))
+
+-- Deliver. "4, 5. No entry at stage three has the server's next number: 2. Otherwise the lowest such place is freed, sender, id and slot are
+-- appended, next number plus one, 0."
+unfoldable pub deliverFound : Boxes → Found → Stepped
+deliverFound b (At k) =
+    let e = entryAt (b .hold) k in
+    answered Done (withDelivered (withHold b (freed (b .hold) k)) (appended (b .delivered) (record { id = e .id; sender = e .sender; slot = e .slot })))
+deliverFound b Nothing = answered Wait b
+
+unfoldable pub deliverOf : Roster → ℕ → Boxes → Stepped
+deliverOf r server b =
+    must (member r server) (answered BadServer b)
+    (must (not (faulty r server)) (answered WrongSide b)
+    (deliverFound b (readyPlace (b .hold) (nextOf (b .delivered)))))
+
+-- Forge packet. "4 (any of three), 5 for from, 6, no free outgoing place of from: 9. Otherwise sent. It may claim any sender."
+unfoldable pub forgePacketOf : Roster → ℕ → ℕ → ℕ → ℕ → ℕ → Boxes → Stepped
+forgePacketOf r from to sender id slot b =
+    must (member r from && member r to && member r sender) (answered BadServer b)
+    (must (faulty r from) (answered WrongSide b)
+    (must (ltb slot (b .stored)) (answered NoSuch b)
+    (must (isFound (freePlace (b .outgoing))) (answered NoRoom b)
+    (answered Done (withOutgoing b (posted (b .outgoing) (packetFor to (record { id = id; sender = sender; slot = slot }))))))))
+
+-- Forge send. "4, 5. Key exists: 13. 16 executions: 10. Otherwise made."
+unfoldable pub forgeSendOf : Roster → ℕ → ℕ → List ℕ → Boxes → Stepped
+forgeSendOf r server id digest b =
+    must (member r server) (answered BadServer b)
+    (must (faulty r server) (answered WrongSide b)
+    (must (not (isFound (executionOf (b .executions) id))) (answered Recall b)
+    (must (ltb (b .executions .count) executionsMost) (answered Quota b)
+    (answered Done (made r server id digest b)))))
+
+-- Forge receive. "4 (either), 5 for server. No execution: 11. Has called: 13. Digest differs: 12. Otherwise recorded as in propose, 0."
+unfoldable pub forgeReceiveTo : Roster → ℕ → List ℕ → ℕ → Boxes → Stepped
+forgeReceiveTo r server digest k b =
+    let x = executionAt (b .executions) k in
+    must (not (has (x .called) server)) (answered Recall b)
+    (must (sameDigest (x .digest) digest) (answered WrongDigest b)
+    (answered Done (recorded r server k b)))
+
+unfoldable pub forgeReceiveFound : Roster → ℕ → List ℕ → Boxes → Found → Stepped
+forgeReceiveFound r server digest b (At k) = forgeReceiveTo r server digest k b
+forgeReceiveFound r server digest b Nothing = answered Unknown b
+
+unfoldable pub forgeReceiveOf : Roster → ℕ → ℕ → ℕ → List ℕ → Boxes → Stepped
+forgeReceiveOf r server sender id digest b =
+    must (member r server && member r sender) (answered BadServer b)
+    (must (faulty r server) (answered WrongSide b)
+    (forgeReceiveFound r server digest b (executionOf (b .executions) id)))

@@ -1,0 +1,63 @@
+-- Starts, single steps and runs. Document 01, "Refusing a whole schedule".
+use Prim.Native.Nat.{ℕ}
+use mathlib.Core.List.{List, _++_}
+use lib.Dec.{leb}
+use lib.ListN.{length, drop}
+use Rattle.search.specs.Tests.{must}
+use Rattle.world.specs.declared.World.{World}
+use Rattle.world.specs.Roster.{goodRoster}
+use Rattle.world.specs.Fresh.{freshWorld}
+use Rattle.protocol.specs.Sound.{sound}
+use Rattle.format.specs.declared.refusal.Refusal.the-variants.{Cut, BadStart, OutSmall, BadWorld}
+use Rattle.format.specs.declared.reading.Read.{Read}
+use Rattle.format.specs.declared.reading.Read.the-variants as read
+use Rattle.format.specs.declared.verdict.Verdict.{Verdict}
+use Rattle.format.specs.declared.verdict.Verdict.the-variants.{Accepted, Refused}
+use Rattle.format.specs.Fields.{byteAt}
+use Rattle.format.specs.Records.{readAt, askedFrom, asked}
+use Rattle.format.specs.Judging.{refusalNumber, judged}
+use Rattle.protocol.specs.declared.ending.Taken.{Taken}
+use Rattle.protocol.specs.declared.ending.Ran.{Ran}
+use Rattle.protocol.specs.Steps.{taken, stepOf, worldAfter, answersOf}
+
+-- a world of zeros
+abbrev pub noWorld : World
+noWorld = freshWorld 0 0
+
+-- "A start refused with 25 returns a world of zeros."
+unfoldable pub startOf : ℕ → ℕ → Taken
+startOf n faulty = must (goodRoster (record { n = n; faulty = faulty })) (taken (refusalNumber BadStart) noWorld) (taken 0 (freshWorld n faulty))
+
+-- "A step takes a world and the bytes of one record; bytes after the record are ignored. It answers 27 BAD_WORLD exactly when the world is
+-- not sound, then 24 for no bytes, then 22, 23, 24 as above; each leaves the world unchanged."
+unfoldable pub steppedBy : World → List ℕ → Read → Taken
+steppedBy w s (read.Record kind b next) = stepOf w (askedFrom kind s b)
+steppedBy w s (read.Refused why) = taken (refusalNumber why) w
+steppedBy w s read.End = taken (refusalNumber Cut) w
+
+unfoldable pub stepped : World → List ℕ → Taken
+stepped w s = must (sound w) (taken (refusalNumber BadWorld) w) (steppedBy w s (readAt s 0))
+
+-- 26 comes last: "lent answer buffer shorter than one byte per record after the start"
+abbrev pub withRoom : ℕ → Verdict → Verdict
+withRoom room (Accepted k) = must (leb k room) (Refused OutSmall 0) (Accepted k)
+withRoom room (Refused why at) = Refused why at
+
+-- "Nothing runs and nothing is written" where the schedule is refused; "An accepted schedule writes one answer byte per record after the start
+-- and leaves the rest of the buffer untouched."
+abbrev pub startWorld : List ℕ → World
+startWorld s = freshWorld (byteAt s 1) (byteAt s 2)
+
+abbrev pub ranBy : List ℕ → Verdict → Ran
+ranBy s (Accepted k) = record { verdict = Accepted k; world = worldAfter (startWorld s) (asked s) }
+ranBy s (Refused why at) = record { verdict = Refused why at; world = noWorld }
+
+abbrev pub writtenBy : List ℕ → List ℕ → Verdict → List ℕ
+writtenBy s out (Accepted k) = answersOf (startWorld s) (asked s) ++ drop k out
+writtenBy s out (Refused why at) = out
+
+unfoldable pub ranOf : List ℕ → ℕ → Ran
+ranOf s room = ranBy s (withRoom room (judged s))
+
+unfoldable pub writtenOf : List ℕ → List ℕ → List ℕ
+writtenOf s out = writtenBy s out (withRoom (length out) (judged s))

@@ -1,0 +1,94 @@
+-- What a step does to the whole world: the boxes that it touches are taken out, its rule is applied to them, and they are put back.
+use Prim.Native.Nat.{ℕ}
+use mathlib.Core.List.{List, [], _∷_}
+use lib.ListN.{getD, set}
+use Rattle.world.specs.declared.World.{World}
+use Rattle.world.specs.declared.request.Requests.{Requests}
+use Rattle.world.specs.Sizes.{requestsMost}
+use Rattle.world.specs.Requests.{requestAt}
+use Rattle.world.specs.Outgoing.{packetAt}
+use Rattle.world.specs.Hold.{entryAt}
+use Rattle.world.specs.Boxes.{within, seat, outgoingOf, holdOf}
+use Rattle.protocol.specs.declared.boxes.Boxes.{Boxes}
+use Rattle.protocol.specs.declared.boxes.Stepped.{Stepped}
+use Rattle.protocol.specs.declared.boxes.Requested.{Requested}
+use Rattle.protocol.specs.Answers.{answerNumber}
+use Rattle.protocol.specs.Rules.{requestOf, multicastOf, arriveOf, proposeOf, settleOf, deliverOf, forgePacketOf, forgeSendOf, forgeReceiveOf}
+use Rattle.format.specs.Records.{Asked, Request, Multicast, Arrive, Propose, Settle, Deliver, ForgePacket, ForgeSend, ForgeReceive}
+use Rattle.protocol.specs.declared.boxes.Touch.{Touch}
+use Rattle.protocol.specs.declared.ending.Taken.{Taken}
+
+-- an answer's number and the world after
+abbrev pub taken : ℕ → World → Taken
+taken a w = record { number = a; world = w }
+
+-- whose boxes a step touches: the outgoing places and delivered list of one server, the hold of one, the executions of one sender, and the
+-- request of one slot
+abbrev pub touch : ℕ → ℕ → ℕ → ℕ → Touch
+touch server holder sender slot = record { server = seat server; holder = seat holder; sender = seat sender; slot = within requestsMost slot }
+
+abbrev pub boxesOf : World → Touch → Boxes
+boxesOf w t = record {
+  numbered = w .numbered;
+  stored = w .requests .count;
+  request = requestAt (w .requests) (t .slot);
+  executions = getD (w .executions) (t .sender) (record { table = []; count = 0 });
+  outgoing = getD (w .outgoing) (t .server) (record { places = [] });
+  hold = getD (w .holds) (t .holder) (record { places = [] });
+  delivered = getD (w .delivered) (t .server) (record { items = []; count = 0 });
+}
+
+abbrev pub putBack : World → Touch → Boxes → World
+putBack w t b = record {
+  roster = w .roster;
+  numbered = b .numbered;
+  requests = w .requests;
+  executions = set (w .executions) (t .sender) (b .executions);
+  outgoing = set (w .outgoing) (t .server) (b .outgoing);
+  holds = set (w .holds) (t .holder) (b .hold);
+  delivered = set (w .delivered) (t .server) (b .delivered);
+}
+
+abbrev pub putBackStep : World → Touch → Stepped → Taken
+putBackStep w t s = taken (answerNumber (s .answer)) (putBack w t (s .boxes))
+
+-- a rule on the boxes
+abbrev pub on : World → Touch → (Boxes → Stepped) → Taken
+on w t rule = putBackStep w t (rule (boxesOf w t))
+
+abbrev pub withRequests : World → Requests → World
+withRequests w q = record {
+  roster = w .roster;
+  numbered = w .numbered;
+  requests = q;
+  executions = w .executions;
+  outgoing = w .outgoing;
+  holds = w .holds;
+  delivered = w .delivered;
+}
+
+abbrev pub putRequests : World → Requested → Taken
+putRequests w r = taken (answerNumber (r .answer)) (withRequests w (r .requests))
+
+-- each step, with the boxes that document 01's rule speaks of: a packet's recipient, an entry's sender and slot
+unfoldable pub stepOf : World → Asked → Taken
+stepOf w (Request client number seals command) = putRequests w (requestOf (w .roster) client number seals command (w .requests))
+stepOf w (Multicast server slot) = on w (touch server server server slot) (multicastOf (w .roster) server slot)
+stepOf w (Arrive origin place) = on w (touch origin (packetAt (outgoingOf w origin) place .to) origin 0) (arriveOf (w .roster) origin place)
+stepOf w (Propose server place) =
+    on w (touch server server (entryAt (holdOf w server) place .sender) (entryAt (holdOf w server) place .slot)) (proposeOf (w .roster) server place)
+stepOf w (Settle server place) =
+    on w (touch server server (entryAt (holdOf w server) place .sender) (entryAt (holdOf w server) place .slot)) (settleOf (w .roster) server place)
+stepOf w (Deliver server) = on w (touch server server server 0) (deliverOf (w .roster) server)
+stepOf w (ForgePacket from to sender id slot) = on w (touch from from from 0) (forgePacketOf (w .roster) from to sender id slot)
+stepOf w (ForgeSend server id digest) = on w (touch server server server 0) (forgeSendOf (w .roster) server id digest)
+stepOf w (ForgeReceive server sender id digest) = on w (touch server server sender 0) (forgeReceiveOf (w .roster) server sender id digest)
+
+-- a row of steps: the world after, and the answers
+unfoldable pub worldAfter : World → List Asked → World
+worldAfter w [] = w
+worldAfter w (a ∷ l) = worldAfter (stepOf w a .world) l
+
+unfoldable pub answersOf : World → List Asked → List ℕ
+answersOf w [] = []
+answersOf w (a ∷ l) = stepOf w a .number ∷ answersOf (stepOf w a .world) l

@@ -1,0 +1,32 @@
+-- "all zeros": what a free or unused place holds.
+use Prim.Native.Nat.{ℕ}
+use mathlib.Core.Bool.{Bool, not, _&&_}
+use mathlib.Core.List.{List}
+use lib.Dec.{eqb}
+use lib.ListN.{getD}
+use Rattle.search.specs.Search.{every}
+use Rattle.fips180.specs.Digest.{digestBytes}
+use Rattle.world.specs.declared.request.Request.{Request}
+use Rattle.world.specs.declared.execution.Execution.{Execution}
+use Rattle.world.specs.declared.outgoing.Packet.{Packet}
+use Rattle.world.specs.declared.hold.Entry.{Entry}
+use Rattle.world.specs.declared.delivered.Item.{Item}
+use Rattle.world.specs.Sizes.{commandBytes}
+
+unfoldable pub zeroBytes : List ℕ → ℕ → Bool
+zeroBytes l n = every (λ (k : ℕ). eqb (getD l k 0) 0) n
+
+abbrev pub zeroRequest : Request → Bool
+zeroRequest q = eqb (q .number) 0 && eqb (q .client) 0 && eqb (q .seals) 0 && zeroBytes (q .command) commandBytes && zeroBytes (q .digest) digestBytes
+
+abbrev pub zeroExecution : Execution → Bool
+zeroExecution x = eqb (x .number) 0 && eqb (x .id) 0 && eqb (x .called) 0 && eqb (x .mask) 0 && zeroBytes (x .digest) digestBytes
+
+abbrev pub zeroPacket : Packet → Bool
+zeroPacket p = not (p .there) && eqb (p .id) 0 && eqb (p .to) 0 && eqb (p .sender) 0 && eqb (p .slot) 0
+
+abbrev pub zeroEntry : Entry → Bool
+zeroEntry e = eqb (e .stage) 0 && eqb (e .number) 0 && eqb (e .id) 0 && eqb (e .sender) 0 && eqb (e .slot) 0
+
+abbrev pub zeroItem : Item → Bool
+zeroItem i = eqb (i .id) 0 && eqb (i .sender) 0 && eqb (i .slot) 0

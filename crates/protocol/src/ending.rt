@@ -1,0 +1,16 @@
+// How a step and a run end.
+use format::Verdict;
+use world::World;
+
+// An answer's number, and the world after.
+#[repr(C)]
+pub struct Taken {
+    pub number: u8,
+    pub world: World,
+}
+
+// A run's fate, and the world at its end: a world of zeros where it is refused.
+pub struct Ran {
+    pub verdict: Verdict,
+    pub world: World,
+}

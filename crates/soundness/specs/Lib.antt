@@ -1,4 +1,0 @@
-pub mod Zeros
-pub mod Names
-pub mod Sound
-pub mod Quiet
