@@ -14,12 +14,12 @@ use Rattle.world.specs.declared.hold.Hold.{Hold}
 use Rattle.world.specs.declared.outgoing.Packet.{Packet}
 use Rattle.world.specs.Sizes.{servers, outgoingPlaces, holdPlaces}
 use Rattle.world.specs.Roster.{member, faulty}
-use Rattle.world.specs.Outgoing.{freePacket, packetAt, freePlace, cleared}
-use Rattle.world.specs.Hold.{entryOf, entryAt, isEntry, holding, vacancy, kept}
+use Rattle.world.specs.Outgoing.{freePacket, packetAt, freeOutgoing, packetFreed}
+use Rattle.world.specs.Hold.{entryOf, entryAt, isEntry, holding, freeHold, entryAdded}
 use Rattle.world.specs.Boxes.{seat}
 use Rattle.world.proofs.Seats.{seat-own}
 use Rattle.world.proofs.Seats as seats
-use Rattle.protocol.specs.declared.boxes.Stepped.{Stepped}
+use Rattle.protocol.specs.declared.boxes.Ruling.{Ruling}
 use Rattle.protocol.specs.Rules.{arriveOf, forgePacketOf}
 use Rattle.protocol.specs.Steps.{touch, boxesOf, putBack}
 use Rattle.search.proofs.Booleans.{apart, either, musts, must-cases, test, and2, and4, and-both, not-out, not-no}
@@ -29,7 +29,7 @@ use Rattle.kept.proofs.Places.{packet-out}
 use Rattle.agreement.proofs.Invariant.{Correct, holdAt, Holds, Goes, Inv, InvOf}
 use Rattle.agreement.proofs.Keeping.{packets-keep}
 use Rattle.agreement.proofs.Entries.{entry-kept, kept-holds}
-use Rattle.agreement.proofs.Packets.{posted-ways, cleared-ways, under-still}
+use Rattle.agreement.proofs.Packets.{packetAdded-ways, packetFreed-ways, under-still}
 use Rattle.agreement.proofs.Moves.{Moves}
 use Rattle.agreement.proofs.Moving.{at, one, named, good, calm, stays}
 
@@ -56,12 +56,12 @@ module _ (w : World) (f : FactsOf w) (v : InvOf w) where
     -- the packet goes, where its recipient, if it is correct, holds its sending
     gone : {hs : _} → Inv (w .roster) (w .requests) (w .executions) (w .outgoing) hs (w .delivered)
         → (Correct (w .roster) (packet .to) → Holds (holdAt hs (packet .to)) 1 (packet .sender) (packet .id) (packet .slot))
-        → Inv (w .roster) (w .requests) (w .executions) (set (w .outgoing) o (cleared (getD (w .outgoing) o noPackets) place)) hs (w .delivered)
+        → Inv (w .roster) (w .requests) (w .executions) (set (w .outgoing) o (packetFreed (getD (w .outgoing) o noPackets) place)) hs (w .delivered)
     gone {hs} u held =
         packets-keep u (one w f) _
         (λ p s i sl ok.
         under-still (w .outgoing) o _ (rw (f .all-packets) origin) p s i sl
-        (λ d. either (cleared-ways (getD (w .outgoing) o noPackets) place p s i sl d)
+        (λ d. either (packetFreed-ways (getD (w .outgoing) o noPackets) place p s i sl d)
         (λ n. inl n)
         (λ (g : Goes packet p s i sl).
         inr (rw (g .to, g .sender, g .id, g .slot) at (held (rw (g .to) ok))))))
@@ -73,7 +73,7 @@ module _ (w : World) (f : FactsOf w) (v : InvOf w) where
         let p = packet .to in
         let t = at o p x y in
         let b = boxesOf w t in
-        let P : Stepped → Type 0 = λ s. Moves w (putBack w t (s .boxes)) in
+        let P : Ruling → Type 0 = λ s. Moves w (putBack w t (s .boxes)) in
         let same = stays w f t v in
         let full : p < length (w .holds) = rw (f .all-entries) to in
         let e = entryOf 1 (packet .sender) (packet .id) (packet .slot) 0 in
@@ -88,12 +88,12 @@ module _ (w : World) (f : FactsOf w) (v : InvOf w) where
         (λ ok.
         held-equal (holdAt (w .holds) p) (packet .sender) (packet .id) (packet .slot) (rw (good w f p ok) at (not-no (faulty (w .roster) p || holding (holdAt (w .holds) p) (packet .sender) (packet .id) (packet .slot)) no))))))
         λ _.
-        musts P (isFound (vacancy (holdAt (w .holds) p))) _ _ same λ room.
+        musts P (isFound (freeHold (holdAt (w .holds) p))) _ _ same λ room.
         calm w f t _ _ _
         (rw (set-getD (w .delivered) o noItems)
         (gone (entry-kept v (one w f) p full size e (omega arith) room)
         (λ _.
-        rw (getD-set-same (w .holds) p (kept (holdAt (w .holds) p) e) noEntries full)
+        rw (getD-set-same (w .holds) p (entryAdded (holdAt (w .holds) p) e) noEntries full)
         (kept-holds (holdAt (w .holds) p) e size room 1 (packet .sender) (packet .id) (packet .slot) (record { up = omega arith; sender = refl; id = refl; slot = refl })))))
 
   pub arrive-moves : (origin place : ℕ)
@@ -113,7 +113,7 @@ module _ (w : World) (f : FactsOf w) (v : InvOf w) where
       rw (seat-own origin l, seat-own (packetAt o place .to) to) (arrived origin origin 0 place l (k .1) to))
       (λ no.
       let t = touch origin (packetAt (getD (w .outgoing) (seat origin) noPackets) place .to) origin 0 in
-      let P : Stepped → Type 0 = λ s. Moves w (putBack w t (s .boxes)) in
+      let P : Ruling → Type 0 = λ s. Moves w (putBack w t (s .boxes)) in
       musts P (member (w .roster) origin) _ _ (stays w f t v) λ mine.
       musts P (packetAt (getD (w .outgoing) (seat origin) noPackets) place .there) _ _ (stays w f t v) λ there.
       apart _ (and-both mine there) no)
@@ -123,16 +123,16 @@ module _ (w : World) (f : FactsOf w) (v : InvOf w) where
   unfolding forgePacketOf
   forge-packet-moves from to sender id slot =
       let t = touch from from from 0 in
-      let P : Stepped → Type 0 = λ s. Moves w (putBack w t (s .boxes)) in
+      let P : Ruling → Type 0 = λ s. Moves w (putBack w t (s .boxes)) in
       let same = stays w f t v in
       let o = getD (w .outgoing) (seat from) noPackets in
       let l = seats.seated from (seat from) refl in
       musts P (member (w .roster) from && member (w .roster) to && member (w .roster) sender) _ _ same λ _.
       musts P (faulty (w .roster) from) _ _ same λ _.
       musts P (ltb slot (w .requests .count)) _ _ same λ _.
-      musts P (isFound (freePlace o)) _ _ same λ _.
+      musts P (isFound (freeOutgoing o)) _ _ same λ _.
       calm w f t _ _ _
       (rw (set-getD (w .holds) (seat from) noEntries, set-getD (w .delivered) (seat from) noItems)
       (packets-keep v (one w f) _
       (λ p s i sl ok.
-      under-still (w .outgoing) (seat from) _ (rw (f .all-packets) l) p s i sl (λ d. inl (posted-ways o _ (f .packets (seat from) l .size) p s i sl d)))))
+      under-still (w .outgoing) (seat from) _ (rw (f .all-packets) l) p s i sl (λ d. inl (packetAdded-ways o _ (f .packets (seat from) l .size) p s i sl d)))))

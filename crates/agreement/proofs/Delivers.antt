@@ -17,7 +17,7 @@ use Rattle.world.specs.Roster.{member, faulty}
 use Rattle.world.specs.Hold.{entryAt, readyPlace}
 use Rattle.world.specs.Delivered.{nextOf, appended}
 use Rattle.world.proofs.Seats.{seat-own}
-use Rattle.protocol.specs.declared.boxes.Stepped.{Stepped}
+use Rattle.protocol.specs.declared.boxes.Ruling.{Ruling}
 use Rattle.protocol.specs.Rules.{deliverFound, deliverOf}
 use Rattle.protocol.specs.Steps.{touch, boxesOf, putBack}
 use Rattle.search.proofs.Booleans.{musts, and2, and-both}
@@ -66,7 +66,7 @@ module _ (w : World) (f : FactsOf w) (v : InvOf w) where
   unfolding deliverOf
   deliver-moves server =
       let t = touch server server server 0 in
-      let P : Stepped → Type 0 = λ s. Moves w (putBack w t (s .boxes)) in
+      let P : Ruling → Type 0 = λ s. Moves w (putBack w t (s .boxes)) in
       let same = stays w f t v in
       musts P (member (w .roster) server) _ _ same λ mine.
       musts P (not (faulty (w .roster) server)) _ _ same λ good.

@@ -22,7 +22,7 @@ use Rattle.world.specs.declared.hold.Hold.{Hold}
 use Rattle.world.specs.declared.delivered.Delivered.{Delivered}
 use Rattle.world.specs.Sizes.{holdPlaces}
 use Rattle.world.specs.Masks.{has}
-use Rattle.world.specs.Hold.{entryOf, freeEntry, entryAt, vacancy, put, freed, keptAt, kept}
+use Rattle.world.specs.Hold.{entryOf, freeEntry, entryAt, freeHold, entryPut, entryFreed, entryAddedAt, entryAdded}
 use Rattle.search.proofs.Booleans.{either, same?}
 use Rattle.search.proofs.Every.{found-at, found-where}
 use Rattle.kept.proofs.Facts.{noEntries, set-cases}
@@ -31,13 +31,13 @@ use Rattle.agreement.proofs.Keeping.{entries-keep}
 
 -- a hold with an entry put at a place
 module _ (h : Hold) (z : ℕ) (e : Entry) (size : length (h .places) ≡ holdPlaces) (inside : z < holdPlaces) where
-  pub put-here : entryAt (put h z e) z ≡ e
+  pub put-here : entryAt (entryPut h z e) z ≡ e
   put-here = getD-set-same (h .places) z e freeEntry (omega arith)
 
-  pub put-holds : (stage s i sl : ℕ) → Of e stage s i sl → Holds (put h z e) stage s i sl
+  pub put-holds : (stage s i sl : ℕ) → Of e stage s i sl → Holds (entryPut h z e) stage s i sl
   put-holds stage s i sl o = record { place = z; is = rw put-here o }
 
-  put-keeps : (stage s i sl : ℕ) → Holds h stage s i sl → Holds (put h z e) stage s i sl ⊎ Of (entryAt h z) stage s i sl
+  put-keeps : (stage s i sl : ℕ) → Holds h stage s i sl → Holds (entryPut h z e) stage s i sl ⊎ Of (entryAt h z) stage s i sl
   put-keeps stage s i sl g =
       either (same? (g .place) z)
       (λ (y : g .place ≡ z). inr (rw y at (g .is)))
@@ -47,7 +47,7 @@ module _ (h : Hold) (z : ℕ) (e : Entry) (size : length (h .places) ≡ holdPla
         is = set-cases (λ v. Of v stage s i sl) (h .places) z (g .place) e freeEntry (omega arith) (λ d. absurd (y d)) (λ _. g .is);
       }))
 
-  put-back : (stage s i sl : ℕ) → Holds (put h z e) stage s i sl → Holds h stage s i sl ⊎ Of e stage s i sl
+  put-back : (stage s i sl : ℕ) → Holds (entryPut h z e) stage s i sl → Holds h stage s i sl ⊎ Of e stage s i sl
   put-back stage s i sl g =
       set-cases (λ v. Of v stage s i sl → Holds h stage s i sl ⊎ Of e stage s i sl) (h .places) z (g .place) e freeEntry (omega arith)
       (λ _ o. inr o)
@@ -59,12 +59,12 @@ module _ {r : Roster} {q : Requests} {ts : List Executions} {os : List Outgoing}
     (size : length (holdAt hs p .places) ≡ holdPlaces) (inside : z < holdPlaces) where
   module _ (e : Entry) where
     abbrev pub now : List Hold
-    now = set hs p (put (holdAt hs p) z e)
+    now = set hs p (entryPut (holdAt hs p) z e)
 
     -- what holds of the hold with the entry, and of the others as they were
-    held-cases : (P : ℕ → Hold → Type 0) → P p (put (holdAt hs p) z e) → ((o : ℕ) → P o (holdAt hs o)) → (o : ℕ) → P o (holdAt now o)
+    held-cases : (P : ℕ → Hold → Type 0) → P p (entryPut (holdAt hs p) z e) → ((o : ℕ) → P o (holdAt hs o)) → (o : ℕ) → P o (holdAt now o)
     held-cases P here else o =
-        set-cases (λ y. P o y) hs p o (put (holdAt hs p) z e) noEntries seated (λ (w : o ≡ p). rw w here) (λ _. else o)
+        set-cases (λ y. P o y) hs p o (entryPut (holdAt hs p) z e) noEntries seated (λ (w : o ≡ p). rw w here) (λ _. else o)
 
     module _ (second : (s k sl : ℕ) → Made ts s k → Matches q sl (made ts s k) → Of (entryAt (holdAt hs p) z) 2 s (made ts s k .id) sl
         → Of e 2 s (made ts s k .id) sl ⊎ Done (made ts s k) (doneAt ds p))
@@ -72,7 +72,7 @@ module _ {r : Roster} {q : Requests} {ts : List Executions} {os : List Outgoing}
         → Of e 1 s (made ts s k .id) sl ⊎ (Done (made ts s k) (doneAt ds p) ⊎ (has (made ts s k .called) p ≡ true)))
         (third : 3 ≤ e .stage → Belongs q ts (e .sender) (e .id) (e .slot) (e .number))
         (cause : (s k sl : ℕ) → Made ts s k → Matches q sl (made ts s k) → Of e 3 s (made ts s k .id) sl → Spread r os now ds s (made ts s k) sl) where
-      pub entry-put : Inv r q ts os (set hs p (put (holdAt hs p) z e)) ds
+      pub entry-put : Inv r q ts os (set hs p (entryPut (holdAt hs p) z e)) ds
       entry-put =
           entries-keep v one now
           (λ o s k sl ok m g.
@@ -112,13 +112,13 @@ module _ {r : Roster} {q : Requests} {ts : List Executions} {os : List Outgoing}
     none-cause s k sl m g o = let u = o .up in absurd (omega arith)
 
     -- a new entry, at a free place
-    pub entry-added : entryAt (holdAt hs p) z .stage ≡ 0 → Inv r q ts os (set hs p (put (holdAt hs p) z e)) ds
+    pub entry-added : entryAt (holdAt hs p) z .stage ≡ 0 → Inv r q ts os (set hs p (entryPut (holdAt hs p) z e)) ds
     entry-added free =
         entry-put e (λ s k sl m g o. let u = o .up in absurd (omega arith)) (λ s k sl m g o. let u = o .up in absurd (omega arith)) none-third none-cause
 
     -- an entry of stage one, at stage two
     pub entry-second : entryAt (holdAt hs p) z .stage ≡ 1 → 1 ≤ e .stage → e .sender ≡ entryAt (holdAt hs p) z .sender → e .id ≡ entryAt (holdAt hs p) z .id
-        → e .slot ≡ entryAt (holdAt hs p) z .slot → Inv r q ts os (set hs p (put (holdAt hs p) z e)) ds
+        → e .slot ≡ entryAt (holdAt hs p) z .slot → Inv r q ts os (set hs p (entryPut (holdAt hs p) z e)) ds
     entry-second stage up a b c =
         entry-put e (λ s k sl m g o. let u = o .up in absurd (omega arith))
         (λ s k sl m g o. inl (record { up = up; sender = a ∙ o .sender; id = b ∙ o .id; slot = c ∙ o .slot })) none-third none-cause
@@ -126,7 +126,7 @@ module _ {r : Roster} {q : Requests} {ts : List Executions} {os : List Outgoing}
   -- an entry that goes: its execution has another digest, or it is delivered, or it is at stage one and its server has called
   pub entry-freed : ((s k sl : ℕ) → Made ts s k → Matches q sl (made ts s k) → Of (entryAt (holdAt hs p) z) 1 s (made ts s k .id) sl
       → Done (made ts s k) (doneAt ds p) ⊎ ((entryAt (holdAt hs p) z .stage ≡ 1) × (has (made ts s k .called) p ≡ true)))
-      → Inv r q ts os (set hs p (freed (holdAt hs p) z)) ds
+      → Inv r q ts os (set hs p (entryFreed (holdAt hs p) z)) ds
   entry-freed why =
       entry-put freeEntry
       (λ s k sl m g o.
@@ -160,7 +160,7 @@ module _ {r : Roster} {q : Requests} {ts : List Executions} {os : List Outgoing}
 
     pub entry-third : Belongs q ts (third .sender) (third .id) (third .slot) n
         → ((s k sl : ℕ) → Made ts s k → Matches q sl (made ts s k) → Of third 3 s (made ts s k .id) sl → Spread r os hs ds s (made ts s k) sl)
-        → Inv r q ts os (set hs p (put (holdAt hs p) z third)) ds
+        → Inv r q ts os (set hs p (entryPut (holdAt hs p) z third)) ds
     entry-third belongs spread =
         entry-put third
         (λ s k sl m g o. inl (as-third 2 s _ sl (omega arith) o))
@@ -173,27 +173,27 @@ pub record Room (h : Hold) (e : Entry) : Type 0 where
   pub place : ℕ
   pub inside : place < holdPlaces
   pub free : entryAt h place .stage ≡ 0
-  pub kept-there : kept h e ≡ put h place e
+  pub kept-there : entryAdded h e ≡ entryPut h place e
 
-pub room : (h : Hold) (e : Entry) → isFound (vacancy h) ≡ true → Room h e
-unfolding kept keptAt
+pub room : (h : Hold) (e : Entry) → isFound (freeHold h) ≡ true → Room h e
+unfolding entryAdded entryAddedAt
 room h e y =
-    let z = found-where (vacancy h) y in
+    let z = found-where (freeHold h) y in
     record {
       place = z .0;
-      inside = found-in _ holdPlaces (z .0) (vacancy h) refl (z .1);
+      inside = found-in _ holdPlaces (z .0) (freeHold h) refl (z .1);
       free = eqb-true (entryAt h (z .0) .stage) 0 (found-at (λ (k : ℕ). eqb (entryAt h k .stage) 0) holdPlaces (z .0) (z .1));
-      kept-there = ap (λ (g : Found). keptAt h e g) (z .1);
+      kept-there = ap (λ (g : Found). entryAddedAt h e g) (z .1);
     }
 
-pub kept-holds : (h : Hold) (e : Entry) → length (h .places) ≡ holdPlaces → isFound (vacancy h) ≡ true → (stage s i sl : ℕ) → Of e stage s i sl → Holds (kept h e) stage s i sl
+pub kept-holds : (h : Hold) (e : Entry) → length (h .places) ≡ holdPlaces → isFound (freeHold h) ≡ true → (stage s i sl : ℕ) → Of e stage s i sl → Holds (entryAdded h e) stage s i sl
 kept-holds h e size y stage s i sl o =
     let z = room h e y in
     rw (z .kept-there) (put-holds h (z .place) e size (z .inside) stage s i sl o)
 
 pub entry-kept : {r : Roster} {q : Requests} {ts : List Executions} {os : List Outgoing} {hs : List Hold} {ds : List Delivered} → Inv r q ts os hs ds
     → ((a b : ℕ) (x : Execution) → Matches q a x → Matches q b x → a ≡ b) → (p : ℕ) → p < length hs → length (holdAt hs p .places) ≡ holdPlaces
-    → (e : Entry) → e .stage < 3 → isFound (vacancy (holdAt hs p)) ≡ true → Inv r q ts os (set hs p (kept (holdAt hs p) e)) ds
+    → (e : Entry) → e .stage < 3 → isFound (freeHold (holdAt hs p)) ≡ true → Inv r q ts os (set hs p (entryAdded (holdAt hs p) e)) ds
 entry-kept {hs = hs} v one p seated size e low y =
     let z = room (holdAt hs p) e y in
     rw (z .kept-there) (entry-added v one p seated (z .place) size (z .inside) e low (z .free))

@@ -18,7 +18,7 @@ use Rattle.world.specs.Requests.{sameDigest}
 use Rattle.world.specs.Executions.{executionAt, executionOf, opened, called}
 use Rattle.world.specs.Boxes.{seat}
 use Rattle.world.proofs.Seats.{seat-own}
-use Rattle.protocol.specs.declared.boxes.Stepped.{Stepped}
+use Rattle.protocol.specs.declared.boxes.Ruling.{Ruling}
 use Rattle.protocol.specs.Rules.{made, recorded, forgeSendOf, forgeReceiveTo, forgeReceiveFound, forgeReceiveOf}
 use Rattle.protocol.specs.Steps.{touch, boxesOf, putBack}
 use Rattle.search.proofs.Booleans.{apart, musts, and2, not-out}
@@ -60,7 +60,7 @@ module _ (w : World) (f : FactsOf w) (v : InvOf w) where
   unfolding forgeSendOf
   forge-send-moves server id digest =
       let t = touch server server server 0 in
-      let P : Stepped → Type 0 = λ s. Moves w (putBack w t (s .boxes)) in
+      let P : Ruling → Type 0 = λ s. Moves w (putBack w t (s .boxes)) in
       let same = stays w f t v in
       musts P (member (w .roster) server) _ _ same λ mine.
       let l = named w f server mine in
@@ -78,7 +78,7 @@ module _ (w : World) (f : FactsOf w) (v : InvOf w) where
     unfolding forgeReceiveFound forgeReceiveTo recorded
     received id (At k) q =
         let t = at p p x y in
-        let P : Stepped → Type 0 = λ s. Moves w (putBack w t (s .boxes)) in
+        let P : Ruling → Type 0 = λ s. Moves w (putBack w t (s .boxes)) in
         let e = executionAt (tableAt (w .executions) x) k in
         let same = stays w f t v in
         let u = found-made (tableAt (w .executions) x) id k (sym q) in
@@ -97,7 +97,7 @@ module _ (w : World) (f : FactsOf w) (v : InvOf w) where
   unfolding forgeReceiveOf
   forge-receive-moves server from id digest =
       let t = touch server server from 0 in
-      let P : Stepped → Type 0 = λ s. Moves w (putBack w t (s .boxes)) in
+      let P : Ruling → Type 0 = λ s. Moves w (putBack w t (s .boxes)) in
       let same = stays w f t v in
       musts P (member (w .roster) server && member (w .roster) from) _ _ same λ both.
       let a = and2 (member (w .roster) server) (member (w .roster) from) both in

@@ -22,9 +22,9 @@ use Rattle.world.specs.Roster.{member, faulty}
 use Rattle.world.specs.Requests.{requestAt}
 use Rattle.world.specs.Executions.{opened}
 use Rattle.world.specs.Outgoing.{freePlaces, needed}
-use Rattle.world.specs.Hold.{entryOf, vacancy, kept}
+use Rattle.world.specs.Hold.{entryOf, freeHold, entryAdded}
 use Rattle.world.proofs.Seats.{seat-own}
-use Rattle.protocol.specs.declared.boxes.Stepped.{Stepped}
+use Rattle.protocol.specs.declared.boxes.Ruling.{Ruling}
 use Rattle.protocol.specs.Rules.{made, multicastDone, roomy, multicastOf}
 use Rattle.protocol.specs.Steps.{touch, boxesOf, putBack}
 use Rattle.search.proofs.Booleans.{either, musts, same?, and2, and-both}
@@ -41,7 +41,7 @@ use Rattle.agreement.proofs.Uses.{slot-own}
 
 module _ (w : World) (f : FactsOf w) (v : InvOf w) where
   module _ (p : ℕ) (ok : Correct (w .roster) p) (slot : ℕ) (stored : slot < w .requests .count) (seal : has (requestAt (w .requests) slot .seals) p ≡ true)
-      (quota : tableAt (w .executions) p .count < executionsMost) (vacant : isFound (vacancy (holdAt (w .holds) p)) ≡ true)
+      (quota : tableAt (w .executions) p .count < executionsMost) (vacant : isFound (freeHold (holdAt (w .holds) p)) ≡ true)
       (room : needed (w .roster) nobody p ≤ freePlaces (getD (w .outgoing) p noPackets)) where
     abbrev id : ℕ
     id = tableAt (w .executions) p .count + 1
@@ -53,7 +53,7 @@ module _ (w : World) (f : FactsOf w) (v : InvOf w) where
     entry = entryOf 2 p id slot 0
 
     abbrev holds : List Hold
-    holds = set (w .holds) p (kept (holdAt (w .holds) p) entry)
+    holds = set (w .holds) p (entryAdded (holdAt (w .holds) p) entry)
 
     abbrev mail : List Outgoing
     mail = posts w f p ok nobody sending
@@ -76,7 +76,7 @@ module _ (w : World) (f : FactsOf w) (v : InvOf w) where
 
     own : (stage : ℕ) → stage ≤ 2 → Holds (holdAt holds p) stage p (x .id) slot
     own stage l =
-        rw (getD-set-same (w .holds) p (kept (holdAt (w .holds) p) entry) noEntries (in-holds w f p ok), x-id)
+        rw (getD-set-same (w .holds) p (entryAdded (holdAt (w .holds) p) entry) noEntries (in-holds w f p ok), x-id)
         (kept-holds (holdAt (w .holds) p) entry (f .entries p (seated w f p ok) .size) vacant stage p id slot (record { up = l; sender = refl; id = refl; slot = refl }))
 
     answers : Called (w .requests) x p (holdAt holds p) (doneAt (w .delivered) p) p
@@ -103,7 +103,7 @@ module _ (w : World) (f : FactsOf w) (v : InvOf w) where
   multicast-moves server slot =
       let t = touch server server server slot in
       let b = boxesOf w t in
-      let P : Stepped → Type 0 = λ s. Moves w (putBack w t (s .boxes)) in
+      let P : Ruling → Type 0 = λ s. Moves w (putBack w t (s .boxes)) in
       let same = stays w f t v in
       musts P (member (w .roster) server) _ _ same λ mine.
       musts P (not (faulty (w .roster) server)) _ _ same λ good.
@@ -115,7 +115,7 @@ module _ (w : World) (f : FactsOf w) (v : InvOf w) where
       musts P (has (b .request .seals) server) _ _ same λ seal.
       musts P (ltb (b .executions .count) executionsMost) _ _ same λ quota.
       musts P (roomy (w .roster) server b) _ _ same λ roomy.
-      let a = and2 (leb (needed (w .roster) nobody server) (freePlaces (b .outgoing))) (isFound (vacancy (b .hold))) roomy in
+      let a = and2 (leb (needed (w .roster) nobody server) (freePlaces (b .outgoing))) (isFound (freeHold (b .hold))) roomy in
       rw (e, c)
       (multicasts server (and-both mine good) slot k (rw c at seal) (rw e at (ltb-true (b .executions .count) executionsMost quota)) (rw e at (a .1))
       (rw e at (leb-true (needed (w .roster) nobody server) (freePlaces (b .outgoing)) (a .0))))

@@ -1,4 +1,4 @@
--- Packets that are posted stay under way, and where there is room enough one goes to each recipient. Assumes nothing.
+-- Packets that are packetAdded stay under way, and where there is room enough one goes to each recipient. Assumes nothing.
 use mathlib.Core.Path.{_≡_, refl, sym, ap, _∙_}
 use mathlib.Core.Logic.{_⊎_, inl, inr, _≢_}
 use mathlib.Core.Bool.{Bool, true, false, cond, not}
@@ -16,7 +16,7 @@ use Rattle.world.specs.declared.outgoing.Outgoing.{Outgoing}
 use Rattle.world.specs.declared.outgoing.Packet.{Packet}
 use Rattle.world.specs.declared.outgoing.Sending.{Sending}
 use Rattle.world.specs.Sizes.{servers, outgoingPlaces}
-use Rattle.world.specs.Outgoing.{freePacket, packetFor, packetAt, isFree, freePlace, freePlaces, putPacket, cleared, postedAt, posted, recipient, needed, sentBelow, sent}
+use Rattle.world.specs.Outgoing.{freePacket, packetFor, packetAt, isFree, freeOutgoing, freePlaces, packetPut, packetFreed, packetAddedAt, packetAdded, recipient, needed, sentBelow, sent}
 use Rattle.search.proofs.Booleans.{apart, either, same?, not-out}
 use Rattle.search.proofs.Every.{found-at}
 use Rattle.kept.proofs.Counts.{count-some}
@@ -44,10 +44,10 @@ count-drop t u z (suc n) p a b h =
     let d = h n (λ y. e (sym y)) in
     rw d (omega arith))
 
--- one packet posted
+-- one packet packetAdded
 module _ (o : Outgoing) (k : Packet) (size : length (o .places) ≡ outgoingPlaces) where
   module _ (z : ℕ) (free : isFree o z ≡ true) (inside : z < outgoingPlaces) where
-    put-way : (p s i sl : ℕ) → Way o p s i sl → Way (putPacket o z k) p s i sl
+    put-way : (p s i sl : ℕ) → Way o p s i sl → Way (packetPut o z k) p s i sl
     put-way p s i sl w =
         record {
           place = w .place;
@@ -56,24 +56,24 @@ module _ (o : Outgoing) (k : Packet) (size : length (o .places) ≡ outgoingPlac
               (λ _. w .goes);
         }
 
-    put-goes : (p s i sl : ℕ) → Goes k p s i sl → Way (putPacket o z k) p s i sl
+    put-goes : (p s i sl : ℕ) → Goes k p s i sl → Way (packetPut o z k) p s i sl
     put-goes p s i sl g = record { place = z; goes = rw (getD-set-same (o .places) z k freePacket (omega arith)) g }
 
-    put-count : k .there ≡ true → freePlaces o ≡ freePlaces (putPacket o z k) + 1
+    put-count : k .there ≡ true → freePlaces o ≡ freePlaces (packetPut o z k) + 1
     put-count there =
-        count-drop (λ (j : ℕ). isFree o j) (λ (j : ℕ). isFree (putPacket o z k) j) z outgoingPlaces inside free
+        count-drop (λ (j : ℕ). isFree o j) (λ (j : ℕ). isFree (packetPut o z k) j) z outgoingPlaces inside free
         (ap (λ (y : Packet). not (y .there)) (getD-set-same (o .places) z k freePacket (omega arith)) ∙ ap not there)
         (λ i d. ap (λ (y : Packet). not (y .there)) (getD-set-other (o .places) z i k freePacket d))
 
-  -- what a posted packet leaves
+  -- what a packetAdded packet leaves
   record Posts (n : Outgoing) : Type 0 where
     size-of : length (n .places) ≡ outgoingPlaces
     ways : (p s i sl : ℕ) → Way o p s i sl → Way n p s i sl
     goes : 0 < freePlaces o → (p s i sl : ℕ) → Goes k p s i sl → Way n p s i sl
     fewer : 0 < freePlaces o → k .there ≡ true → freePlaces o ≡ freePlaces n + 1
 
-  posts-at : (f : Found) → f ≡ freePlace o → Posts (postedAt o k f)
-  unfolding postedAt
+  posts-at : (f : Found) → f ≡ freeOutgoing o → Posts (packetAddedAt o k f)
+  unfolding packetAddedAt
   posts-at (At z) e =
       let l = found-in _ outgoingPlaces z (At z) e refl in
       let free = found-at (λ (j : ℕ). isFree o j) outgoingPlaces z (sym e) in
@@ -82,13 +82,13 @@ module _ (o : Outgoing) (k : Packet) (size : length (o .places) ≡ outgoingPlac
       record {
         size-of = size;
         ways = λ p s i sl w. w;
-        goes = λ l. apart (isFound (freePlace o)) (count-some (λ (j : ℕ). isFree o j) outgoingPlaces l) (rw (← e));
-        fewer = λ l. apart (isFound (freePlace o)) (count-some (λ (j : ℕ). isFree o j) outgoingPlaces l) (rw (← e));
+        goes = λ l. apart (isFound (freeOutgoing o)) (count-some (λ (j : ℕ). isFree o j) outgoingPlaces l) (rw (← e));
+        fewer = λ l. apart (isFound (freeOutgoing o)) (count-some (λ (j : ℕ). isFree o j) outgoingPlaces l) (rw (← e));
       }
 
-  posts : Posts (posted o k)
-  unfolding posted
-  posts = posts-at (freePlace o) refl
+  posts : Posts (packetAdded o k)
+  unfolding packetAdded
+  posts = posts-at (freeOutgoing o) refl
 
 -- one packet to each recipient
 module _ (r : Roster) (mask server : ℕ) (d : Sending) (o : Outgoing) (size : length (o .places) ≡ outgoingPlaces) where
@@ -106,7 +106,7 @@ module _ (r : Roster) (mask server : ℕ) (d : Sending) (o : Outgoing) (size : l
   unfolding count
   wanted-more n b e = rw e
 
-  sends-more : (n : ℕ) (now : Outgoing) → Sends n now → (b : Bool) → recipient r mask server n ≡ b → Sends (suc n) (cond b (posted now (packetFor n d)) now)
+  sends-more : (n : ℕ) (now : Outgoing) → Sends n now → (b : Bool) → recipient r mask server n ≡ b → Sends (suc n) (cond b (packetAdded now (packetFor n d)) now)
   sends-more n now f true e =
       let g = posts now (packetFor n d) (f .size-of) in
       let c : wanted (suc n) ≡ wanted n + 1 = wanted-more n true e in
@@ -144,12 +144,12 @@ module _ (r : Roster) (mask server : ℕ) (d : Sending) (o : Outgoing) (size : l
       → Way (sent r mask server d o) to (d .sender) (d .id) (d .slot)
   sent-goes = sends servers .goes
 
-pub posted-ways : (o : Outgoing) (k : Packet) → length (o .places) ≡ outgoingPlaces → (p s i sl : ℕ) → Way o p s i sl → Way (posted o k) p s i sl
-posted-ways o k size = posts o k size .ways
+pub packetAdded-ways : (o : Outgoing) (k : Packet) → length (o .places) ≡ outgoingPlaces → (p s i sl : ℕ) → Way o p s i sl → Way (packetAdded o k) p s i sl
+packetAdded-ways o k size = posts o k size .ways
 
--- a place cleared: only what stood there is gone
-pub cleared-ways : (o : Outgoing) (z : ℕ) (p s i sl : ℕ) → Way o p s i sl → Way (cleared o z) p s i sl ⊎ Goes (packetAt o z) p s i sl
-cleared-ways o z p s i sl w =
+-- a place packetFreed: only what stood there is gone
+pub packetFreed-ways : (o : Outgoing) (z : ℕ) (p s i sl : ℕ) → Way o p s i sl → Way (packetFreed o z) p s i sl ⊎ Goes (packetAt o z) p s i sl
+packetFreed-ways o z p s i sl w =
     either (same? (w .place) z)
     (λ (e : w .place ≡ z). inr (rw e at (w .goes)))
     (λ (e : w .place ≢ z). inl (record { place = w .place; goes = rw (getD-set-other (o .places) z (w .place) freePacket freePacket e) (w .goes) }))

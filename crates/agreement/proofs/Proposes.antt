@@ -14,9 +14,9 @@ use Rattle.world.specs.Sizes.{executionsMost}
 use Rattle.world.specs.Masks.{has}
 use Rattle.world.specs.Requests.{requestAt, sameDigest}
 use Rattle.world.specs.Executions.{executionOf, called}
-use Rattle.world.specs.Hold.{entryOf, entryAt, put}
+use Rattle.world.specs.Hold.{entryOf, entryAt, entryPut}
 use Rattle.world.specs.Boxes.{holdOf}
-use Rattle.protocol.specs.declared.boxes.Stepped.{Stepped}
+use Rattle.protocol.specs.declared.boxes.Ruling.{Ruling}
 use Rattle.protocol.specs.Rules.{raised, recorded, proposeTo, proposeFound, proposeOf}
 use Rattle.protocol.specs.Steps.{touch, boxesOf, putBack}
 use Rattle.search.proofs.Booleans.{musts, must-cases, not-no}
@@ -39,7 +39,7 @@ module _ (w : World) (f : FactsOf w) (v : InvOf w) where
     u : Uses w f v p ok place
     u = uses w f v p ok place 1 (λ z. omega arith) first
 
-    raises : Inv (w .roster) (w .requests) (w .executions) (w .outgoing) (set (w .holds) p (put (holdAt (w .holds) p) place second)) (w .delivered)
+    raises : Inv (w .roster) (w .requests) (w .executions) (w .outgoing) (set (w .holds) p (entryPut (holdAt (w .holds) p) place second)) (w .delivered)
     raises =
         entry-second v (one w f) p (in-holds w f p ok) place (f .entries p (seated w f p ok) .size) (u .within) second (omega arith) first (omega arith) refl refl refl
 
@@ -47,7 +47,7 @@ module _ (w : World) (f : FactsOf w) (v : InvOf w) where
       -- the call is answered for: its server holds the entry
       answers : has (requestAt (w .requests) (e .slot) .seals) p ≡ true → sameDigest (requestAt (w .requests) (e .slot) .digest) (made (w .executions) (e .sender) k .digest) ≡ true
           → Called (w .requests) (calling (w .roster) (made (w .executions) (e .sender) k) p (w .numbered)) (e .sender)
-          (holdAt (set (w .holds) p (put (holdAt (w .holds) p) place second)) p) (doneAt (w .delivered) p) p
+          (holdAt (set (w .holds) p (entryPut (holdAt (w .holds) p) place second)) p) (doneAt (w .delivered) p) p
       answers seal same =
           let o = orders (w .roster) (called (made (w .executions) (e .sender) k) p) (w .numbered) in
           record {
@@ -55,7 +55,7 @@ module _ (w : World) (f : FactsOf w) (v : InvOf w) where
             matches = record { stored = u .slot; same = rw (o .digest) same };
             seal = seal;
             kept = inl
-                (rw (getD-set-same (w .holds) p (put (holdAt (w .holds) p) place second) noEntries (in-holds w f p ok))
+                (rw (getD-set-same (w .holds) p (entryPut (holdAt (w .holds) p) place second) noEntries (in-holds w f p ok))
                 (put-holds (holdAt (w .holds) p) place second (f .entries p (seated w f p ok) .size) (u .within) 2 (e .sender) _ (e .slot)
                 (record { up = omega arith; sender = refl; id = sym (o .id ∙ its-id w f v p ok place u k q); slot = refl })));
           }
@@ -65,7 +65,7 @@ module _ (w : World) (f : FactsOf w) (v : InvOf w) where
     unfolding proposeFound proposeTo recorded
     proposed (At k) q =
         let t = at p p (e .sender) (e .slot) in
-        let P : Stepped → Type 0 = λ s. Moves w (putBack w t (s .boxes)) in
+        let P : Ruling → Type 0 = λ s. Moves w (putBack w t (s .boxes)) in
         let x = made (w .executions) (e .sender) k in
         let drops = dropped w f v p ok place u k (sym q) (e .sender) (e .slot) in
         let g = f .tables (e .sender) (u .sender) in

@@ -70,11 +70,11 @@ module _ (w : World) (f : FactsOf w) (v : InvOf w) where
   same : Moves w (withRequests w q)
   same = record { inv = v; roster = refl; more = omega arith; belongs = λ s i sl n b. b; still = inl refl }
 
-  pub request-moves : (client number seals : ℕ) (command : List ℕ) → Moves w (withRequests w (requestOf (w .roster) client number seals command (w .requests) .requests))
+  pub request-moves : (client serial seals : ℕ) (command : List ℕ) → Moves w (withRequests w (requestOf (w .roster) client serial seals command (w .requests) .requests))
   unfolding requestOf
-  request-moves client number seals command =
+  request-moves client serial seals command =
       let P : Requested → Type 0 = λ s. Moves w (withRequests w (s .requests)) in
-      let x = requestFrom client number seals command in
+      let x = requestFrom client serial seals command in
       musts P (not (strays (w .roster) seals)) _ _ same λ _.
       musts P (not (knownDigest q (x .digest))) _ _ same λ new.
       musts P (ltb (q .count) requestsMost) _ _ same λ room.

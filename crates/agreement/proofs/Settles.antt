@@ -20,9 +20,9 @@ use Rattle.world.specs.Masks.{has}
 use Rattle.world.specs.Requests.{requestAt, sameDigest}
 use Rattle.world.specs.Executions.{executionOf}
 use Rattle.world.specs.Outgoing.{freePlaces, needed}
-use Rattle.world.specs.Hold.{entryOf, entryAt, put}
+use Rattle.world.specs.Hold.{entryOf, entryAt, entryPut}
 use Rattle.world.specs.Boxes.{holdOf}
-use Rattle.protocol.specs.declared.boxes.Stepped.{Stepped}
+use Rattle.protocol.specs.declared.boxes.Ruling.{Ruling}
 use Rattle.protocol.specs.Rules.{settleTo, settleFound, settleOf}
 use Rattle.protocol.specs.Steps.{touch, boxesOf, putBack}
 use Rattle.search.proofs.Booleans.{either, test, musts, must-cases, same?, not-out, not-no}
@@ -61,7 +61,7 @@ module _ (w : World) (f : FactsOf w) (v : InvOf w) where
         -- the entry goes to stage three where its sending is spread
         raises : {os : List Outgoing} → Inv (w .roster) (w .requests) (w .executions) os (w .holds) (w .delivered)
             → Spread (w .roster) os (w .holds) (w .delivered) (e .sender) x (e .slot)
-            → Inv (w .roster) (w .requests) (w .executions) os (set (w .holds) p (put (holdAt (w .holds) p) place (entryOf 3 (e .sender) (e .id) (e .slot) (x .number)))) (w .delivered)
+            → Inv (w .roster) (w .requests) (w .executions) os (set (w .holds) p (entryPut (holdAt (w .holds) p) place (entryOf 3 (e .sender) (e .id) (e .slot) (x .number)))) (w .delivered)
         raises {os} n spread =
             let s = seated w f p ok in
             entry-third n (one w f) p (in-holds w f p ok) place (f .entries p s .size) (u .within) (x .number) belongs
@@ -96,7 +96,7 @@ module _ (w : World) (f : FactsOf w) (v : InvOf w) where
     unfolding settleFound settleTo
     settles (At k) q =
         let t = at p p (e .sender) (e .slot) in
-        let P : Stepped → Type 0 = λ s. Moves w (putBack w t (s .boxes)) in
+        let P : Ruling → Type 0 = λ s. Moves w (putBack w t (s .boxes)) in
         let y = made (w .executions) (e .sender) k in
         let r = sym q in
         let nothing = stays w f t v in

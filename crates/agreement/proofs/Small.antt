@@ -18,7 +18,7 @@ use Rattle.world.specs.Masks.{nobody, join}
 use Rattle.world.specs.Executions.{executionAt, noExecution, opened, called, ordered, freshExecutions, unusedExecution}
 use Rattle.world.specs.Fresh.{freshWorld}
 use Rattle.protocol.specs.declared.boxes.Boxes.{Boxes}
-use Rattle.protocol.specs.declared.boxes.Stepped.{Stepped}
+use Rattle.protocol.specs.declared.boxes.Ruling.{Ruling}
 use Rattle.protocol.specs.Rules.{made, recorded, raised, multicastDone, multicastOf, arriveOf, proposeTo, proposeFound, proposeOf, settleTo, settleFound, settleOf, deliverFound, deliverOf, forgePacketOf, forgeSendOf, forgeReceiveTo, forgeReceiveFound, forgeReceiveOf}
 use Rattle.format.specs.Records.{Asked, Request, Multicast, Arrive, Propose, Settle, Deliver, ForgePacket, ForgeSend, ForgeReceive}
 use Rattle.protocol.specs.Steps.{stepOf}
@@ -63,7 +63,7 @@ module _ (r : Roster) (b : Boxes) (f : Low (b .executions)) where
       put-low r (called x server) (b .numbered) t place (t .count)
       (chosen Eight (eqb (x .number) 0) _ _ (λ _. join-small (x .mask) server (f place)) (λ _. f place)) f
 
-abbrev Leaves : Stepped → Type 0
+abbrev Leaves : Ruling → Type 0
 Leaves s = Low (s .boxes .executions)
 
 -- each rule: a refusal leaves the boxes, and so does a rule that tells nothing to the orderer
@@ -131,7 +131,7 @@ put-small ts x t l f s = set-both Low ts x s t noTable l (f s)
 
 pub step-small : (w : World) (a : Asked) → Small (w .executions) → Small (stepOf w a .world .executions)
 unfolding stepOf
-step-small w (Request client number seals command) f = f
+step-small w (Request client serial seals command) f = f
 step-small w (Multicast server slot) f = put-small (w .executions) _ _ (multicast-small (w .roster) _ (f _) server slot) f
 step-small w (Arrive origin place) f = put-small (w .executions) _ _ (arrive-small (w .roster) _ (f _) origin place) f
 step-small w (Propose server place) f = put-small (w .executions) _ _ (propose-small (w .roster) _ (f _) server place) f

@@ -12,7 +12,7 @@ use Rattle.agreement.proofs.Forges.{forge-send-moves, forge-receive-mov
 
 pub steps : StepMoves
 unfolding stepOf
-steps w (Request client number seals command) f v = request-moves w f v client number seals command
+steps w (Request client serial seals command) f v = request-moves w f v client serial seals command
 steps w (Multicast server slot) f v = multicast-moves w f v server slot
 steps w (Arrive origin place) f v = arrive-moves w f v origin place
 steps w (Propose server place) f v = propose-moves w f v server place

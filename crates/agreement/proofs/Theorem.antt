@@ -9,7 +9,7 @@ use Rattle.format.specs.Records.{Asked, asked}
 use Rattle.protocol.specs.Steps.{stepOf, worldAfter}
 use Rattle.protocol.specs.Runs.{startWorld}
 use Rattle.format.proofs.Judged.{accepted-means}
-use Rattle.kept.proofs.Stepping.{step-facts, ran-keeps, stepped-keeps, started-keeps}
+use Rattle.kept.proofs.Stepping.{step-facts, ran-keeps, public-keeps, started-keeps}
 use Rattle.agreement.specs.Agreement.{Agreed, through, Demand, byRecord, byBytes, RunAgrees, RanAgrees, RowAgrees}
 use Rattle.agreement.proofs.Stepping.{steps}
 use Rattle.agreement.proofs.Small.{step-small}
@@ -32,7 +32,7 @@ by-record w a g =
     record { good = record { facts = step-facts w a (g .facts); inv = m .inv; small = step-small w a (g .small) }; moves = m }
 
 by-bytes : (w : World) (s : List ℕ) → Good w → Leads w (byBytes w s)
-by-bytes w s g = stepped-keeps (Leads w) w s (leads-same g) (λ a. by-record w a g)
+by-bytes w s g = public-keeps (Leads w) w s (leads-same g) (λ a. by-record w a g)
 
 pub run-agrees : RunAgrees
 run-agrees s k e =

@@ -15,14 +15,14 @@ use Rattle.world.specs.Masks.{has}
 use Rattle.world.specs.Roster.{member, faulty}
 use Rattle.world.specs.Requests.{requestAt, sameDigest}
 use Rattle.world.specs.Executions.{executionAt, executionOf}
-use Rattle.world.specs.Hold.{freeEntry, entryAt, freed}
+use Rattle.world.specs.Hold.{freeEntry, entryAt, entryFreed}
 use Rattle.world.specs.Boxes.{within, holdOf}
 use Rattle.world.proofs.Seats.{seat-own}
 use Rattle.protocol.specs.Steps.{touch, boxesOf, putBack}
 use Rattle.search.specs.Tests.{must}
 use Rattle.protocol.specs.declared.answer.Answer.the-variants.{BadServer, WrongSide, NoSuch}
 use Rattle.protocol.specs.declared.boxes.Boxes.{Boxes}
-use Rattle.protocol.specs.declared.boxes.Stepped.{Stepped}
+use Rattle.protocol.specs.declared.boxes.Ruling.{Ruling}
 use Rattle.protocol.specs.Rules.{answered, withHold}
 use Rattle.search.proofs.Booleans.{apart, either, musts, and2, and-both}
 use Rattle.search.proofs.Every.{found-at}
@@ -75,7 +75,7 @@ module _ (w : World) (f : FactsOf w) (v : InvOf w) (p : ℕ) (ok : Correct (w .r
 
     -- it goes, where the server has called or the digest is another
     pub dropped : (x y : ℕ) → ((taken .stage ≡ 1) × (has (its .called) p ≡ true)) ⊎ (sameDigest (requestAt (w .requests) (taken .slot) .digest) (its .digest) ≡ false)
-        → Moves w (putBack w (at p p x y) (withHold (boxesOf w (at p p x y)) (freed (holdAt (w .holds) p) place)))
+        → Moves w (putBack w (at p p x y) (withHold (boxesOf w (at p p x y)) (entryFreed (holdAt (w .holds) p) place)))
     dropped x y why =
         let s = seated w f p ok in
         calm-entry w f (at p p x y) _
@@ -93,7 +93,7 @@ pub slot-own : (w : World) → FactsOf w → (slot : ℕ) → slot < w .requests
 slot-own w f slot l = rw (lt-ltb slot requestsMost (omega (arith, f .requests .most)))
 
 -- the tests of both steps: 4, 5, and 6 for an entry at another stage
-pub entry-moves : (w : World) (f : FactsOf w) → InvOf w → (n : ℕ) → n ≢ 0 → (server place : ℕ) (next : Boxes → Stepped)
+pub entry-moves : (w : World) (f : FactsOf w) → InvOf w → (n : ℕ) → n ≢ 0 → (server place : ℕ) (next : Boxes → Ruling)
     → ((ok : Correct (w .roster) server) → entryAt (holdAt (w .holds) server) place .stage ≡ n
     → (let e = entryAt (holdAt (w .holds) server) place in let t = at server server (e .sender) (e .slot) in Moves w (putBack w t (next (boxesOf w t) .boxes))))
     → (let e = entryAt (holdOf w server) place in let t = touch server server (e .sender) (e .slot) in let b = boxesOf w t in
@@ -106,7 +106,7 @@ pub entry-moves : (w : World) (f : FactsOf w) → InvOf w → (n : ℕ) → n �
 entry-moves w f v n some server place next moves =
     let d = entryAt (holdOf w server) place in
     let t = touch server server (d .sender) (d .slot) in
-    let P : Stepped → Type 0 = λ s. Moves w (putBack w t (s .boxes)) in
+    let P : Ruling → Type 0 = λ s. Moves w (putBack w t (s .boxes)) in
     let same = stays w f t v in
     musts P (member (w .roster) server) _ _ same λ mine.
     musts P (not (faulty (w .roster) server)) _ _ same λ good.

@@ -28,7 +28,7 @@ use Rattle.format.specs.declared.verdict.Verdict.the-variants.{Accepted}
 use Rattle.format.specs.Records.{Asked, asked}
 use Rattle.format.specs.Judging.{judged}
 use Rattle.protocol.specs.Steps.{stepOf}
-use Rattle.protocol.specs.Runs.{startOf, stepped, startWorld, ranOf}
+use Rattle.protocol.specs.Runs.{startOf, publicStep, startWorld, ranOf}
 
 -- the place that a search found
 abbrev pub placeOf : Found → ℕ
@@ -124,7 +124,7 @@ abbrev pub byRecord : World → Asked → World
 byRecord w a = stepOf w a .world
 
 abbrev pub byBytes : World → List ℕ → World
-byBytes w s = stepped w s .world
+byBytes w s = publicStep w s .world
 
 -- of every schedule that is not refused
 abbrev pub RunAgrees : Type 0
@@ -136,4 +136,4 @@ RanAgrees = (s : List ℕ) (room k : ℕ) → ranOf s room .verdict ≡ Accepted
 
 -- of a public start that answers 0 and any row of public steps, refused ones among them
 abbrev pub RowAgrees : Type 0
-RowAgrees = (n faulty : ℕ) (l : List (List ℕ)) → startOf n faulty .number ≡ 0 → Demand byBytes (startOf n faulty .world) l
+RowAgrees = (n faulty : ℕ) (l : List (List ℕ)) → startOf n faulty .code ≡ 0 → Demand byBytes (startOf n faulty .world) l

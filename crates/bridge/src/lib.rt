@@ -4,24 +4,24 @@ ghost use mathlib.Core.Path.{_≡_};
 ghost use lib.ListN.{length};
 ghost use Rattle.fips180.specs.Digest.{digestAnswer};
 ghost use Rattle.protocol.specs.Quiet.{quiet};
-ghost use Rattle.protocol.specs.Runs.{startOf, stepped, writtenOf};
+ghost use Rattle.protocol.specs.Runs.{startOf, publicStep, writtenOf};
 ghost use Rattle.bridge.specs.Bridge.{runOf};
 use fips180::Digest;
 use format::Verdict;
-use protocol::Taken;
+use protocol::Outcome;
 use world::World;
 
-// How a run ended: 0 and the count of records behind the start, or a refusal's number and offset; and the world at its end, a world of zeros
+// How a run ended: 0 and the count of records behind the start, or a refusal's code and offset; and the world at its end, a world of zeros
 // where it is refused.
 #[repr(C)]
 pub struct Run {
     pub offset: usize,
     pub records: usize,
-    pub number: u8,
+    pub code: u8,
     pub world: World,
 }
 
-// The answer's number; the digest goes into `out`, zeros where the message is refused.
+// The answer's code; the digest goes into `out`, zeros where the message is refused.
 #[no_mangle]
 pub extern "C" fn staubharfe_sha256(message: &[u8], out: &mut [u8; Digest::BYTES]) -> u8
     ensures { λ r. ⌜ r ≡ digestAnswer (now (message .entry)) .code ⌝ }
@@ -35,16 +35,16 @@ pub extern "C" fn staubharfe_sha256(message: &[u8], out: &mut [u8; Digest::BYTES
 
 // A fresh world with 0; 25 and a world of zeros where no world may start so.
 #[no_mangle]
-pub extern "C" fn staubharfe_start(n: u8, faulty: u8) -> Taken
+pub extern "C" fn staubharfe_start(n: u8, faulty: u8) -> Outcome
     ensures { λ r. ⌜ r ≡ startOf n faulty ⌝ }
 {
     rehearsal::start(n, faulty)
 }
 
-// The step of one record: its answer's number, or why it is refused, and the world after.
+// The step of one record: its answer's code, or why it is refused, and the world after.
 #[no_mangle]
-pub extern "C" fn staubharfe_step(world: World, bytes: &[u8]) -> Taken
-    ensures { λ r. ⌜ r ≡ stepped world (now (bytes .entry)) ⌝ }
+pub extern "C" fn staubharfe_step(world: World, bytes: &[u8]) -> Outcome
+    ensures { λ r. ⌜ r ≡ publicStep world (now (bytes .entry)) ⌝ }
 {
     rehearsal::step(world, bytes)
 }
@@ -62,13 +62,13 @@ pub extern "C" fn staubharfe_run(schedule: &[u8], answers: &mut [u8]) -> Run
         Verdict::Accepted(records) => Run {
             offset: 0,
             records,
-            number: 0,
+            code: 0,
             world,
         },
         Verdict::Refused(why, offset) => Run {
             offset,
             records: 0,
-            number: why.number(),
+            code: why.code(),
             world,
         },
     }

@@ -8,8 +8,8 @@ use Rattle.fips180.specs.Sha256.{padded, nextWord, scheduled, roundOf, roundsOf
 use Rattle.world.specs.Masks.{has, join}
 use Rattle.world.specs.Requests.{freshRequests, requestBytes, sameDigest, knownDigest}
 use Rattle.world.specs.Executions.{freshExecutions, ordered}
-use Rattle.world.specs.Outgoing.{freshOutgoing, postedAt, posted, sentBelow}
-use Rattle.world.specs.Hold.{freshHold, keptAt, kept}
+use Rattle.world.specs.Outgoing.{freshOutgoing, packetAddedAt, packetAdded, sentBelow}
+use Rattle.world.specs.Hold.{freshHold, entryAddedAt, entryAdded}
 use Rattle.world.specs.Delivered.{freshDelivered}
 use Rattle.world.specs.Fresh.{freshWorld}
 use Rattle.protocol.specs.Rules.{made, recorded, requestFrom, requestOf, multicastDone, multicastOf, arriveOf, proposeTo, proposeFound, proposeOf, settleTo, settleFound, settleOf, deliverFound, deliverOf, forgeSendOf}
@@ -22,5 +22,5 @@ use Rattle.cases.specs.Texts.{codes, lines, unspaced, paired, bytes, rep
 use Rattle.cases.specs.Cases.{TableHolds}
 
 pub table-holds : TableHolds
-unfolding onesIn ones firstFrom count must padded nextWord scheduled roundOf roundsOf fed blockWords compressed hashed stateBytes digestOf has join freshRequests requestBytes sameDigest knownDigest freshExecutions ordered freshOutgoing postedAt posted sentBelow freshHold keptAt kept freshDelivered freshWorld made recorded requestFrom requestOf multicastDone multicastOf arriveOf proposeTo proposeFound proposeOf settleTo settleFound settleOf deliverFound deliverOf forgeSendOf bytesAt formOf readBy readAt askedBy askedAfter scanBy scanFrom scanned recordsJudged judged stepOf worldAfter answersOf decimalIn stepLines itemTexts serverLines listingOf codes lines unspaced paired bytes repeated
+unfolding onesIn ones firstFrom count must padded nextWord scheduled roundOf roundsOf fed blockWords compressed hashed stateBytes digestOf has join freshRequests requestBytes sameDigest knownDigest freshExecutions ordered freshOutgoing packetAddedAt packetAdded sentBelow freshHold entryAddedAt entryAdded freshDelivered freshWorld made recorded requestFrom requestOf multicastDone multicastOf arriveOf proposeTo proposeFound proposeOf settleTo settleFound settleOf deliverFound deliverOf forgeSendOf bytesAt formOf readBy readAt askedBy askedAfter scanBy scanFrom scanned recordsJudged judged stepOf worldAfter answersOf decimalIn stepLines itemTexts serverLines listingOf codes lines unspaced paired bytes repeated
 table-holds = (refl, (refl, (refl, (refl, (refl, (refl, (refl, (refl, tt))))))))

@@ -19,8 +19,8 @@ use Rattle.world.specs.Masks.{has, join}
 use Rattle.world.specs.Roster.{correct}
 use Rattle.world.specs.Requests.{freshRequests, requestBytes, sameDigest, knownDigest}
 use Rattle.world.specs.Executions.{freshExecutions, ordered}
-use Rattle.world.specs.Outgoing.{freshOutgoing, postedAt, posted, sentBelow}
-use Rattle.world.specs.Hold.{freshHold, keptAt, kept}
+use Rattle.world.specs.Outgoing.{freshOutgoing, packetAddedAt, packetAdded, sentBelow}
+use Rattle.world.specs.Hold.{freshHold, entryAddedAt, entryAdded}
 use Rattle.world.specs.Delivered.{freshDelivered}
 use Rattle.world.specs.Fresh.{freshWorld}
 use Rattle.protocol.specs.declared.boxes.Boxes.{Boxes}
@@ -49,7 +49,7 @@ propose-same r server place b = simp found-same
 
 pub copy-is-true : CopyIsTrue
 unfolding stepBy stepOf
-copy-is-true w (Request client number seals command) = refl
+copy-is-true w (Request client serial seals command) = refl
 copy-is-true w (Multicast server slot) = refl
 copy-is-true w (Arrive origin place) = refl
 copy-is-true w (Propose server place) = simp propose-same
@@ -89,7 +89,7 @@ pub right-steps-do-not : RightStepsDoNot
 right-steps-do-not l b = left-behind (atEnd byRecord l) b (demanded byRecord by-record l .agreed)
 
 pub errors-break : ErrorsBreak
-unfolding onesIn ones firstFrom count must padded nextWord scheduled roundOf roundsOf fed blockWords compressed hashed stateBytes digestOf has join freshRequests requestBytes sameDigest knownDigest freshExecutions ordered freshOutgoing postedAt posted sentBelow freshHold keptAt kept freshDelivered freshWorld made recorded requestFrom requestOf multicastDone multicastOf arriveOf proposeTo proposeFound proposeOf settleTo settleFound settleOf deliverFound deliverOf forgePacketOf forgeSendOf forgeReceiveTo forgeReceiveFound forgeReceiveOf stepOf outgoingQuiet stirs holdQuiet serverQuiet quiet through recordingWrong droppingUnsealed keepingOrigin proposeFoundBy proposeBy stepBy leaves
+unfolding onesIn ones firstFrom count must padded nextWord scheduled roundOf roundsOf fed blockWords compressed hashed stateBytes digestOf has join freshRequests requestBytes sameDigest knownDigest freshExecutions ordered freshOutgoing packetAddedAt packetAdded sentBelow freshHold entryAddedAt entryAdded freshDelivered freshWorld made recorded requestFrom requestOf multicastDone multicastOf arriveOf proposeTo proposeFound proposeOf settleTo settleFound settleOf deliverFound deliverOf forgePacketOf forgeSendOf forgeReceiveTo forgeReceiveFound forgeReceiveOf stepOf outgoingQuiet stirs holdQuiet serverQuiet quiet through recordingWrong droppingUnsealed keepingOrigin proposeFoundBy proposeBy stepBy leaves
 errors-break = (
   breaks wrongRecorded incident 1 refl,
   (breaks unsealedDropped unsealed 1 refl, breaks originKept forwarded 1 refl),

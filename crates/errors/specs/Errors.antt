@@ -16,13 +16,13 @@ use Rattle.world.specs.Masks.{has}
 use Rattle.world.specs.Roster.{member, faulty}
 use Rattle.world.specs.Requests.{sameDigest}
 use Rattle.world.specs.Executions.{executionAt, executionOf}
-use Rattle.world.specs.Outgoing.{packetAt, cleared}
-use Rattle.world.specs.Hold.{entryOf, entryAt, holding, vacancy, kept}
+use Rattle.world.specs.Outgoing.{packetAt, packetFreed}
+use Rattle.world.specs.Hold.{entryOf, entryAt, holding, freeHold, entryAdded}
 use Rattle.world.specs.Boxes.{outgoingOf, holdOf}
 use Rattle.world.specs.Fresh.{freshWorld}
 use Rattle.protocol.specs.declared.answer.Answer.the-variants.{Done, Dropped, Wait, BadServer, WrongSide, NoSuch, NoRoom}
 use Rattle.protocol.specs.declared.boxes.Boxes.{Boxes}
-use Rattle.protocol.specs.declared.boxes.Stepped.{Stepped}
+use Rattle.protocol.specs.declared.boxes.Ruling.{Ruling}
 use Rattle.protocol.specs.Rules.{answered, withHold, withOutgoing, recorded, raised, droppedAt, requestFrom, arriveOf, proposeTo, proposeOf}
 use Rattle.format.specs.Records.{Asked, Request, Multicast, Arrive, Propose, Settle, Deliver, ForgePacket, ForgeSend, ForgeReceive}
 use Rattle.protocol.specs.Steps.{touch, on}
@@ -33,7 +33,7 @@ use Rattle.agreement.proofs.Rows.{Leads}
 
 -- "Recording a call that gave a wrong digest, so the true copy that comes later is taken for a repeat." Where the digest differs the entry is
 -- freed, as it should be, but the call is recorded as in the last line, in the mask too.
-unfoldable pub recordingWrong : Roster → ℕ → ℕ → ℕ → Boxes → Stepped
+unfoldable pub recordingWrong : Roster → ℕ → ℕ → ℕ → Boxes → Ruling
 recordingWrong r server place k b =
     let x = executionAt (b .executions) k in
     must (not (has (x .called) server)) (droppedAt place b)
@@ -42,7 +42,7 @@ recordingWrong r server place k b =
     (answered Done (recorded r server k (raised place 2 0 b)))))
 
 -- "Dropping an unsealed entry at propose: that server would never deliver." Where the own seal bit is 0 the entry is freed.
-unfoldable pub droppingUnsealed : Roster → ℕ → ℕ → ℕ → Boxes → Stepped
+unfoldable pub droppingUnsealed : Roster → ℕ → ℕ → ℕ → Boxes → Ruling
 droppingUnsealed r server place k b =
     let x = executionAt (b .executions) k in
     must (not (has (x .called) server)) (droppedAt place b)
@@ -51,23 +51,23 @@ droppingUnsealed r server place k b =
     (answered Done (recorded r server k (raised place 2 0 b)))))
 
 -- "Taking a claimed sender for the packet's origin." The entry is kept under the origin's name.
-unfoldable pub keepingOrigin : Roster → ℕ → ℕ → Boxes → Stepped
+unfoldable pub keepingOrigin : Roster → ℕ → ℕ → Boxes → Ruling
 keepingOrigin r origin place b =
     let p = packetAt (b .outgoing) place in
-    let rest = withOutgoing b (cleared (b .outgoing) place) in
+    let rest = withOutgoing b (packetFreed (b .outgoing) place) in
     must (member r origin) (answered BadServer b)
     (must (p .there) (answered NoSuch b)
     (must (not (faulty r (p .to) || holding (b .hold) (p .sender) (p .id) (p .slot))) (answered Dropped rest)
-    (must (isFound (vacancy (b .hold))) (answered NoRoom b)
-    (answered Done (withHold rest (kept (b .hold) (entryOf 1 origin (p .id) (p .slot) 0)))))))
+    (must (isFound (freeHold (b .hold))) (answered NoRoom b)
+    (answered Done (withHold rest (entryAdded (b .hold) (entryOf 1 origin (p .id) (p .slot) 0)))))))
 
 -- propose with its last tests left open: 4, 5, 6 and 2 as they are
-module _ (last : Roster → ℕ → ℕ → ℕ → Boxes → Stepped) where
-  unfoldable pub proposeFoundBy : Roster → ℕ → ℕ → Boxes → Found → Stepped
+module _ (last : Roster → ℕ → ℕ → ℕ → Boxes → Ruling) where
+  unfoldable pub proposeFoundBy : Roster → ℕ → ℕ → Boxes → Found → Ruling
   proposeFoundBy r server place b (At k) = last r server place k b
   proposeFoundBy r server place b Nothing = answered Wait b
 
-  unfoldable pub proposeBy : Roster → ℕ → ℕ → Boxes → Stepped
+  unfoldable pub proposeBy : Roster → ℕ → ℕ → Boxes → Ruling
   proposeBy r server place b =
       let e = entryAt (b .hold) place in
       must (member r server) (answered BadServer b)
@@ -76,13 +76,13 @@ module _ (last : Roster → ℕ → ℕ → ℕ → Boxes → Stepped) where
       (proposeFoundBy r server place b (executionOf (b .executions) (e .id)))))
 
 -- all steps, with the rules for arrive and propose left open
-module _ (arrive propose : Roster → ℕ → ℕ → Boxes → Stepped) where
+module _ (arrive propose : Roster → ℕ → ℕ → Boxes → Ruling) where
   unfoldable pub stepBy : World → Asked → World
   stepBy w (Arrive origin place) =
       on w (touch origin (packetAt (outgoingOf w origin) place .to) origin 0) (arrive (w .roster) origin place) .world
   stepBy w (Propose server place) =
       on w (touch server server (entryAt (holdOf w server) place .sender) (entryAt (holdOf w server) place .slot)) (propose (w .roster) server place) .world
-  stepBy w (Request client number seals command) = byRecord w (Request client number seals command)
+  stepBy w (Request client serial seals command) = byRecord w (Request client serial seals command)
   stepBy w (Multicast server slot) = byRecord w (Multicast server slot)
   stepBy w (Settle server place) = byRecord w (Settle server place)
   stepBy w (Deliver server) = byRecord w (Deliver server)

@@ -19,15 +19,15 @@ use Rattle.format.specs.declared.verdict.Verdict.the-variants.{Accepted,
 use Rattle.format.specs.Fields.{byteAt}
 use Rattle.format.specs.Records.{startBytes, formOf, readAt, asked}
 
-abbrev pub refusalNumber : Refusal → ℕ
-refusalNumber TooLong = 20
-refusalNumber NoStart = 21
-refusalNumber BadKind = 22
-refusalNumber SecondStart = 23
-refusalNumber Cut = 24
-refusalNumber BadStart = 25
-refusalNumber OutSmall = 26
-refusalNumber BadWorld = 27
+abbrev pub refusalCode : Refusal → ℕ
+refusalCode TooLong = 20
+refusalCode NoStart = 21
+refusalCode BadKind = 22
+refusalCode SecondStart = 23
+refusalCode Cut = 24
+refusalCode BadStart = 25
+refusalCode OutSmall = 26
+refusalCode BadWorld = 27
 
 abbrev pub scheduleMost : ℕ
 scheduleMost = 32768

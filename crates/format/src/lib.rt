@@ -6,7 +6,6 @@ mod refusal;
 mod verdict;
 
 use fips180::Digest;
-
 pub use kinds::Act;
 pub use kinds::Form;
 pub use kinds::Kind;

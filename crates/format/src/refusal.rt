@@ -1,6 +1,6 @@
 // The refusals of a schedule, a start or a single step.
 ghost use mathlib.Core.Path.{_≡_};
-ghost use Rattle.format.specs.Judging.{refusalNumber};
+ghost use Rattle.format.specs.Judging.{refusalCode};
 
 // Why a schedule, a start or a single step is refused.
 pub enum Refusal {
@@ -15,9 +15,9 @@ pub enum Refusal {
 }
 
 impl Refusal {
-    // The number that document 01 gives it.
-    pub fn number(self) -> u8
-        ensures { λ r. ⌜ r ≡ refusalNumber self ⌝ }
+    // The code that document 01 gives it.
+    pub fn code(self) -> u8
+        ensures { λ r. ⌜ r ≡ refusalCode self ⌝ }
     {
         match self {
             Refusal::TooLong => 20,

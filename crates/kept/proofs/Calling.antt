@@ -17,7 +17,7 @@ use Rattle.world.specs.Roster.{member, faulty}
 use Rattle.world.specs.Requests.{sameDigest}
 use Rattle.world.specs.Executions.{executionAt, executionOf}
 use Rattle.protocol.specs.declared.boxes.Boxes.{Boxes}
-use Rattle.protocol.specs.declared.boxes.Stepped.{Stepped}
+use Rattle.protocol.specs.declared.boxes.Ruling.{Ruling}
 use Rattle.protocol.specs.Rules.{forgeSendOf, forgeReceiveTo, forgeReceiveFound, forgeReceiveOf}
 use Rattle.search.proofs.Booleans.{apart, musts, and2, not-out}
 use Rattle.kept.proofs.Ordering.{found-made, not-found, made-fits, recorded-fits}
@@ -28,7 +28,7 @@ module _ {r : Roster} {stored m : ℕ} {ts : List Executions} (all : length ts �
       → (member r server ≡ true → s ≡ server) → Keeps r stored m ts s h s (forgeSendOf r server id digest b)
   unfolding forgeSendOf
   forge-send-keeps {s} {h} {b} seated f server id digest at =
-      let P : Stepped → Type 0 = Keeps r stored m ts s h s in
+      let P : Ruling → Type 0 = Keeps r stored m ts s h s in
       musts P (member r server) _ _ f λ mine.
       musts P (faulty r server) _ _ f λ bad.
       musts P (not (isFound (executionOf (b .executions) id))) _ _ f λ none.
@@ -44,7 +44,7 @@ module _ {r : Roster} {stored m : ℕ} {ts : List Executions} (all : length ts �
         → Keeps r stored m ts s h x (forgeReceiveFound r server digest b g)
     unfolding forgeReceiveFound forgeReceiveTo
     received digest id mine theirs (At k) e =
-        let P : Stepped → Type 0 = Keeps r stored m ts s h x in
+        let P : Ruling → Type 0 = Keeps r stored m ts s h x in
         let y = executionAt (b .executions) k in
         musts P (not (has (y .called) server)) _ _ f λ _.
         musts P (sameDigest (y .digest) digest) _ _ f λ _.
@@ -55,7 +55,7 @@ module _ {r : Roster} {stored m : ℕ} {ts : List Executions} (all : length ts �
         → Keeps r stored m ts s h x (forgeReceiveOf r server sender id digest b)
     unfolding forgeReceiveOf
     forge-receive-keeps sender id digest from =
-        let P : Stepped → Type 0 = Keeps r stored m ts s h x in
+        let P : Ruling → Type 0 = Keeps r stored m ts s h x in
         musts P (member r server && member r sender) _ _ f λ both.
         musts P (faulty r server) _ _ f λ _.
         let a = and2 (member r server) (member r sender) both in

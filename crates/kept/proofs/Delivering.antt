@@ -18,7 +18,7 @@ use Rattle.world.specs.Hold.{entryAt, readyPlace}
 use Rattle.world.specs.Delivered.{nextOf}
 use Rattle.protocol.specs.Sound.{stageSound}
 use Rattle.protocol.specs.declared.boxes.Boxes.{Boxes}
-use Rattle.protocol.specs.declared.boxes.Stepped.{Stepped}
+use Rattle.protocol.specs.declared.boxes.Ruling.{Ruling}
 use Rattle.protocol.specs.Rules.{deliverFound, deliverOf}
 use Rattle.search.proofs.Booleans.{musts, and2, and-both}
 use Rattle.search.proofs.Every.{found-at}
@@ -50,7 +50,7 @@ module _ {r : Roster} {stored m : ℕ} {ts : List Executions} {s x : ℕ} {b : B
   pub deliver-keeps : (server : ℕ) → (member r server ≡ true → s ≡ server) → Keeps r stored m ts s s x (deliverOf r server b)
   unfolding deliverOf
   deliver-keeps server at =
-      let P : Stepped → Type 0 = Keeps r stored m ts s s x in
+      let P : Ruling → Type 0 = Keeps r stored m ts s s x in
       musts P (member r server) _ _ f λ a.
       musts P (not (faulty r server)) _ _ f λ _.
       delivered-at (rw (at a) a) _ refl

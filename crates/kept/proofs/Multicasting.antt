@@ -16,7 +16,7 @@ use Rattle.world.specs.Roster.{member, faulty, correct}
 use Rattle.world.specs.Executions.{executionAt}
 use Rattle.world.specs.Hold.{entryOf}
 use Rattle.protocol.specs.declared.boxes.Boxes.{Boxes}
-use Rattle.protocol.specs.declared.boxes.Stepped.{Stepped}
+use Rattle.protocol.specs.declared.boxes.Ruling.{Ruling}
 use Rattle.protocol.specs.Rules.{made, multicastDone, roomy, multicastOf}
 use Rattle.search.proofs.Booleans.{musts, and-both}
 use Rattle.kept.proofs.Facts.{Table, place-out}
@@ -53,7 +53,7 @@ module _ {r : Roster} {stored m : ℕ} {ts : List Executions} (all : length ts �
       → Keeps r stored m ts s s s (multicastOf r server slot b)
   unfolding multicastOf
   multicast-keeps {s} {b} seated f server slot at =
-      let P : Stepped → Type 0 = Keeps r stored m ts s s s in
+      let P : Ruling → Type 0 = Keeps r stored m ts s s s in
       musts P (member r server) _ _ f λ mine.
       musts P (not (faulty r server)) _ _ f λ good.
       musts P (ltb slot (b .stored)) _ _ f λ there.

@@ -24,8 +24,8 @@ use Rattle.world.specs.declared.delivered.Delivered.{Delivered}
 use Rattle.world.specs.Sizes.{servers, outgoingPlaces, holdPlaces, deliveredMost}
 use Rattle.world.specs.Masks.{has}
 use Rattle.world.specs.Roster.{member}
-use Rattle.world.specs.Outgoing.{freePacket, packetFor, freePlace, putPacket, cleared, postedAt, posted, recipient, sentBelow, sent}
-use Rattle.world.specs.Hold.{entryOf, freeEntry, vacancy, put, freed, keptAt, kept}
+use Rattle.world.specs.Outgoing.{freePacket, packetFor, freeOutgoing, packetPut, packetFreed, packetAddedAt, packetAdded, recipient, sentBelow, sent}
+use Rattle.world.specs.Hold.{entryOf, freeEntry, freeHold, entryPut, entryFreed, entryAddedAt, entryAdded}
 use Rattle.world.specs.Delivered.{unusedItem, nextOf, appended}
 use Rattle.protocol.specs.Names.{names, tableOf, ownExecution}
 use Rattle.protocol.specs.Sound.{packetSound, stageSound, entrySound, itemSound}
@@ -65,7 +65,7 @@ module _ (r : Roster) (stored m x : ℕ) (t : Executions) (mine : member r x ≡
 
 -- a hold
 module _ {r : Roster} {stored m : ℕ} {ts : List Executions} {x : ℕ} {h : Hold} (f : Entries r stored m ts x h) where
-  pub entry-put : (k : ℕ) (e : Entry) → k < holdPlaces → entrySound r stored m x (tableOf ts (e .sender)) e ≡ true → Entries r stored m ts x (put h k e)
+  pub entry-put : (k : ℕ) (e : Entry) → k < holdPlaces → entrySound r stored m x (tableOf ts (e .sender)) e ≡ true → Entries r stored m ts x (entryPut h k e)
   entry-put k e p s =
       record {
         size = length-set (h .places) k e ∙ f .size;
@@ -78,17 +78,17 @@ module _ {r : Roster} {stored m : ℕ} {ts : List Executions} {x : ℕ} {h : Hol
   unfolding entrySound
   free-sound t = refl
 
-  pub entry-freed : (k : ℕ) → k < holdPlaces → Entries r stored m ts x (freed h k)
+  pub entry-freed : (k : ℕ) → k < holdPlaces → Entries r stored m ts x (entryFreed h k)
   entry-freed k p = entry-put k freeEntry p (free-sound _)
 
-  kept-at : (e : Entry) → entrySound r stored m x (tableOf ts (e .sender)) e ≡ true → (g : Found) → g ≡ vacancy h → Entries r stored m ts x (keptAt h e g)
-  unfolding keptAt
+  kept-at : (e : Entry) → entrySound r stored m x (tableOf ts (e .sender)) e ≡ true → (g : Found) → g ≡ freeHold h → Entries r stored m ts x (entryAddedAt h e g)
+  unfolding entryAddedAt
   kept-at e s (At k) q = entry-put k e (found-in _ holdPlaces k (At k) q refl) s
   kept-at e s Nothing q = f
 
-  pub entry-kept : (e : Entry) → entrySound r stored m x (tableOf ts (e .sender)) e ≡ true → Entries r stored m ts x (kept h e)
-  unfolding kept
-  entry-kept e s = kept-at e s (vacancy h) refl
+  pub entry-kept : (e : Entry) → entrySound r stored m x (tableOf ts (e .sender)) e ≡ true → Entries r stored m ts x (entryAdded h e)
+  unfolding entryAdded
+  entry-kept e s = kept-at e s (freeHold h) refl
 
 -- what a packet under way names
 pub packet-out : (r : Roster) (stored x : ℕ) (p : Packet) → p .there ≡ true → packetSound r stored x p ≡ true
@@ -105,25 +105,25 @@ sending-sound r stored x s to mine good there = and-both (and-both mine there) g
 -- the outgoing places
 module _ {r : Roster} {stored x : ℕ} where
   packet-put : {o : Outgoing} → Packets r stored x o → (k : ℕ) (p : Packet) → k < outgoingPlaces → packetSound r stored x p ≡ true
-      → Packets r stored x (putPacket o k p)
+      → Packets r stored x (packetPut o k p)
   packet-put {o} f k p l s =
       record {
         size = length-set (o .places) k p ∙ f .size;
         places = λ j q. set-cases (λ y. packetSound r stored x y ≡ true) (o .places) k j p freePacket (omega (arith, f .size)) (λ _. s) (λ _. f .places j q);
       }
 
-  pub packet-cleared : {o : Outgoing} → Packets r stored x o → (k : ℕ) → k < outgoingPlaces → Packets r stored x (cleared o k)
+  pub packet-packetFreed : {o : Outgoing} → Packets r stored x o → (k : ℕ) → k < outgoingPlaces → Packets r stored x (packetFreed o k)
   unfolding packetSound
-  packet-cleared f k l = packet-put f k freePacket l refl
+  packet-packetFreed f k l = packet-put f k freePacket l refl
 
-  posted-at : {o : Outgoing} → Packets r stored x o → (p : Packet) → packetSound r stored x p ≡ true → (g : Found) → g ≡ freePlace o → Packets r stored x (postedAt o p g)
-  unfolding postedAt
-  posted-at f p s (At k) q = packet-put f k p (found-in _ outgoingPlaces k (At k) q refl) s
-  posted-at f p s Nothing q = f
+  packetAdded-at : {o : Outgoing} → Packets r stored x o → (p : Packet) → packetSound r stored x p ≡ true → (g : Found) → g ≡ freeOutgoing o → Packets r stored x (packetAddedAt o p g)
+  unfolding packetAddedAt
+  packetAdded-at f p s (At k) q = packet-put f k p (found-in _ outgoingPlaces k (At k) q refl) s
+  packetAdded-at f p s Nothing q = f
 
-  pub packet-posted : {o : Outgoing} → Packets r stored x o → (p : Packet) → packetSound r stored x p ≡ true → Packets r stored x (posted o p)
-  unfolding posted
-  packet-posted {o} f p s = posted-at f p s (freePlace o) refl
+  pub packet-packetAdded : {o : Outgoing} → Packets r stored x o → (p : Packet) → packetSound r stored x p ≡ true → Packets r stored x (packetAdded o p)
+  unfolding packetAdded
+  packet-packetAdded {o} f p s = packetAdded-at f p s (freeOutgoing o) refl
 
   module _ (mine : member r x ≡ true) (s : Sending) (good : names r stored (s .sender) (s .slot) ≡ true) where
     below : (mask server : ℕ) {o : Outgoing} → Packets r stored x o → (n : ℕ) → Packets r stored x (sentBelow r mask server s o n)
@@ -131,8 +131,8 @@ module _ {r : Roster} {stored x : ℕ} where
     below mask server f zero = f
     below mask server {o} f (suc n) =
         let g = below mask server f n in
-        chosen (λ v. Packets r stored x v) (recipient r mask server n) (posted (sentBelow r mask server s o n) (packetFor n s)) (sentBelow r mask server s o n)
-        (λ e. packet-posted g (packetFor n s) (sending-sound r stored x s n mine good (and3 (member r n) (not (has mask n)) (not (eqb n server)) e .0)))
+        chosen (λ v. Packets r stored x v) (recipient r mask server n) (packetAdded (sentBelow r mask server s o n) (packetFor n s)) (sentBelow r mask server s o n)
+        (λ e. packet-packetAdded g (packetFor n s) (sending-sound r stored x s n mine good (and3 (member r n) (not (has mask n)) (not (eqb n server)) e .0)))
         (λ _. g)
 
     pub packets-sent : (mask server : ℕ) {o : Outgoing} → Packets r stored x o → Packets r stored x (sent r mask server s o)

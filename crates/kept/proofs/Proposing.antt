@@ -26,7 +26,7 @@ use Rattle.world.specs.Boxes.{seat}
 use Rattle.protocol.specs.Names.{tableOf, ownExecution}
 use Rattle.world.proofs.Seats.{seat-own}
 use Rattle.protocol.specs.declared.boxes.Boxes.{Boxes}
-use Rattle.protocol.specs.declared.boxes.Stepped.{Stepped}
+use Rattle.protocol.specs.declared.boxes.Ruling.{Ruling}
 use Rattle.protocol.specs.Rules.{raised, droppedAt, proposeTo, proposeFound, proposeOf, settleTo, settleFound, settleOf}
 use Rattle.search.proofs.Booleans.{musts, and-both, not-out}
 use Rattle.kept.proofs.Facts.{noTable, inside, Held, entry-out, place-out, order-low}
@@ -77,7 +77,7 @@ module _ {r : Roster} (few : r .n ≤ servers) {stored m : ℕ} {ts : List Execu
       → Keeps r stored m ts s s x (proposeFound r server place b g)
   unfolding proposeFound proposeTo e
   proposed server mine l u (At k) q =
-      let P : Stepped → Type 0 = Keeps r stored m ts s s x in
+      let P : Ruling → Type 0 = Keeps r stored m ts s s x in
       let y = executionAt (b .executions) k in
       let second = second-fits u (rw (← q)) in
       musts P (not (has (y .called) server)) _ _ (dropped-fits u) λ _.
@@ -90,7 +90,7 @@ module _ {r : Roster} (few : r .n ≤ servers) {stored m : ℕ} {ts : List Execu
   pub propose-keeps : (server : ℕ) → s < servers → (member r server ≡ true → s ≡ server) → Keeps r stored m ts s s x (proposeOf r server place b)
   unfolding proposeOf
   propose-keeps server seated at =
-      let P : Stepped → Type 0 = Keeps r stored m ts s s x in
+      let P : Ruling → Type 0 = Keeps r stored m ts s s x in
       musts P (member r server) _ _ f λ mine.
       musts P (not (faulty r server)) _ _ f λ _.
       musts P (eqb (entryAt (b .hold) place .stage) 1) _ _ f λ stage.
@@ -100,7 +100,7 @@ module _ {r : Roster} (few : r .n ≤ servers) {stored m : ℕ} {ts : List Execu
   settled : (server : ℕ) → Used → (g : Found) → g ≡ executionOf (b .executions) (entryAt (b .hold) place .id) → Keeps r stored m ts s s x (settleFound r server place b g)
   unfolding settleFound settleTo e
   settled server u (At k) q =
-      let P : Stepped → Type 0 = Keeps r stored m ts s s x in
+      let P : Ruling → Type 0 = Keeps r stored m ts s s x in
       let y = executionAt (b .executions) k in
       let c = found-made (b .executions) (entryAt (b .hold) place .id) k (sym q) in
       let top = f .table .most in
@@ -125,7 +125,7 @@ module _ {r : Roster} (few : r .n ≤ servers) {stored m : ℕ} {ts : List Execu
   pub settle-keeps : (server : ℕ) → Keeps r stored m ts s s x (settleOf r server place b)
   unfolding settleOf
   settle-keeps server =
-      let P : Stepped → Type 0 = Keeps r stored m ts s s x in
+      let P : Ruling → Type 0 = Keeps r stored m ts s s x in
       musts P (member r server) _ _ f λ _.
       musts P (not (faulty r server)) _ _ f λ _.
       musts P (eqb (entryAt (b .hold) place .stage) 2) _ _ f λ stage.

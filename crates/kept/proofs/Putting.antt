@@ -17,7 +17,7 @@ use Rattle.world.specs.Boxes.{seat}
 use Rattle.protocol.specs.Names.{tableOf}
 use Rattle.protocol.specs.Sound.{numberAt}
 use Rattle.protocol.specs.declared.boxes.Boxes.{Boxes}
-use Rattle.protocol.specs.declared.boxes.Stepped.{Stepped}
+use Rattle.protocol.specs.declared.boxes.Ruling.{Ruling}
 use Rattle.protocol.specs.Rules.{withHold, withOutgoing, withDelivered}
 use Rattle.protocol.specs.declared.boxes.Touch.{Touch}
 use Rattle.protocol.specs.Steps.{boxesOf, putBack}
@@ -106,5 +106,5 @@ module _ {r : Roster} {stored m : ℕ} {ts : List Executions} {server holder sen
       record { same = f .same; more = f .more; grows = f .grows; numbers = f .numbers; table = f .table; packets = f .packets; entries = f .entries; items = e }
 
 -- a rule's outcome, whose boxes fit
-abbrev pub Keeps : Roster → ℕ → ℕ → List Executions → ℕ → ℕ → ℕ → Stepped → Type 0
+abbrev pub Keeps : Roster → ℕ → ℕ → List Executions → ℕ → ℕ → ℕ → Ruling → Type 0
 Keeps r stored m ts server holder sender s = Fits r stored m ts server holder sender (s .boxes)

@@ -74,31 +74,31 @@ module _ (r : Roster) (q : Requests) (f : Stored r q) where
           more = omega arith;
         }
 
-  made-sound : (client number seals : ℕ) (command : List ℕ) → strays r seals ≡ false → storedSound r (requestFrom client number seals command) ≡ true
+  made-sound : (client serial seals : ℕ) (command : List ℕ) → strays r seals ≡ false → storedSound r (requestFrom client serial seals command) ≡ true
   unfolding storedSound requestFrom requestBytes
-  made-sound client number seals command e = and-both (not-in (strays r seals) e) (same-digest _)
+  made-sound client serial seals command e = and-both (not-in (strays r seals) e) (same-digest _)
 
   stores-same : Stores r q q
   stores-same = record { stored = f; more = omega arith }
 
-  seals-of : (client number seals : ℕ) (command : List ℕ) → requestFrom client number seals command .seals ≡ seals
+  seals-of : (client serial seals : ℕ) (command : List ℕ) → requestFrom client serial seals command .seals ≡ seals
   unfolding requestFrom
-  seals-of client number seals command = refl
+  seals-of client serial seals command = refl
 
-  request-stores : (client number seals : ℕ) (command : List ℕ) → Stores r q (requestOf r client number seals command q .requests)
+  request-stores : (client serial seals : ℕ) (command : List ℕ) → Stores r q (requestOf r client serial seals command q .requests)
   unfolding requestOf added
-  request-stores client number seals command =
+  request-stores client serial seals command =
       let P : Requested → Type 0 = λ v. Stores r q (v .requests) in
       musts P (not (strays r seals)) _ _ stores-same λ a.
-      musts P (not (knownDigest q (requestFrom client number seals command .digest))) _ _ stores-same λ b.
+      musts P (not (knownDigest q (requestFrom client serial seals command .digest))) _ _ stores-same λ b.
       musts P (ltb (q .count) requestsMost) _ _ stores-same λ c.
-      stores-added (requestFrom client number seals command) (made-sound client number seals command (not-out (strays r seals) a))
+      stores-added (requestFrom client serial seals command) (made-sound client serial seals command (not-out (strays r seals) a))
       (not-out _ b) (ltb-true (q .count) requestsMost c)
 
-pub request-facts : (w : World) → FactsOf w → (client number seals : ℕ) (command : List ℕ)
-    → FactsOf (withRequests w (requestOf (w .roster) client number seals command (w .requests) .requests))
-request-facts w f client number seals command =
-    let s = request-stores (w .roster) (w .requests) (f .requests) client number seals command in
+pub request-facts : (w : World) → FactsOf w → (client serial seals : ℕ) (command : List ℕ)
+    → FactsOf (withRequests w (requestOf (w .roster) client serial seals command (w .requests) .requests))
+request-facts w f client serial seals command =
+    let s = request-stores (w .roster) (w .requests) (f .requests) client serial seals command in
     record {
       roster = f .roster;
       requests = s .stored;

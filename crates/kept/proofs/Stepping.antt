@@ -29,11 +29,11 @@ use Rattle.format.specs.declared.verdict.Verdict.the-variants.{Accepted, Refuse
 use Rattle.format.specs.Fields.{byteAt}
 use Rattle.format.specs.Records.{Asked, Request, Multicast, Arrive, Propose, Settle, Deliver, ForgePacket, ForgeSend, ForgeReceive, formOf, readAt, asked}
 use Rattle.format.specs.Judging.{scheduleMost, scanned, startJudged, recordsJudged, judged}
-use Rattle.protocol.specs.declared.ending.Taken.{Taken}
+use Rattle.protocol.specs.declared.ending.Outcome.{Outcome}
 use Rattle.protocol.specs.Steps.{touch, boxesOf, putBack, stepOf, worldAfter}
-use Rattle.protocol.specs.Runs.{startOf, steppedBy, stepped, startWorld, withRoom, ranBy, ranOf}
+use Rattle.protocol.specs.Runs.{startOf, publicStepBy, publicStep, startWorld, withRoom, ranBy, ranOf}
 use Rattle.format.proofs.Judged.{never, accepted-means}
-use Rattle.kept.specs.Kept.{StartSound, StartShaped, StepSound, StepShaped, RunSound, RanSound, steppedAll, RowSound}
+use Rattle.kept.specs.Kept.{StartSound, StartShaped, StepSound, StepShaped, RunSound, RanSound, publicSteps, RowSound}
 use Rattle.search.proofs.Booleans.{musts, and4}
 use Rattle.kept.proofs.Facts.{FactsOf, world-out, world-in, world-shaped}
 use Rattle.kept.proofs.Start.{start-facts}
@@ -64,7 +64,7 @@ module _ (w : World) (f : FactsOf w) where
 
 pub step-facts : (w : World) (a : Asked) → FactsOf w → FactsOf (stepOf w a .world)
 unfolding stepOf
-step-facts w (Request client number seals command) f = request-facts w f client number seals command
+step-facts w (Request client serial seals command) f = request-facts w f client serial seals command
 step-facts w (Multicast server slot) f =
     kept-by w f server server server slot _
     (multicast-keeps (f .all-tables) (here w f server) (fits w f server server server slot) server slot (at w f server))
@@ -132,29 +132,29 @@ ran-sound s room k e = ran-keeps (λ (w : World). sound w ≡ true) s room k (ru
 
 -- what holds of a world and of the world behind every step holds of the world behind a public step
 module _ (P : World → Type 0) (w : World) (s : List ℕ) (same : P w) (next : (a : Asked) → P (stepOf w a .world)) where
-  stepped-by : (v : Read) → P (steppedBy w s v .world)
-  unfolding steppedBy
-  stepped-by (read.Record kind b at) = next _
-  stepped-by (read.Refused why) = same
-  stepped-by read.End = same
+  public-by : (v : Read) → P (publicStepBy w s v .world)
+  unfolding publicStepBy
+  public-by (read.Record kind b at) = next _
+  public-by (read.Refused why) = same
+  public-by read.End = same
 
-  pub stepped-keeps : P (stepped w s .world)
-  unfolding stepped
-  stepped-keeps = musts (λ (v : Taken). P (v .world)) (sound w) _ _ same (λ _. stepped-by (readAt s 0))
+  pub public-keeps : P (publicStep w s .world)
+  unfolding publicStep
+  public-keeps = musts (λ (v : Outcome). P (v .world)) (sound w) _ _ same (λ _. public-by (readAt s 0))
 
 -- and what holds of a fresh world, of a public start that answers 0
 pub started-keeps : (P : World → Type 0) (n faulty : ℕ) → (goodRoster (record { n = n; faulty = faulty }) ≡ true → P (freshWorld n faulty))
-    → startOf n faulty .number ≡ 0 → P (startOf n faulty .world)
+    → startOf n faulty .code ≡ 0 → P (startOf n faulty .world)
 unfolding startOf
 started-keeps P n faulty h =
-    musts (λ (v : Taken). v .number ≡ 0 → P (v .world)) (goodRoster (record { n = n; faulty = faulty })) _ _ (λ e. absurd (omega arith)) (λ g _. h g)
+    musts (λ (v : Outcome). v .code ≡ 0 → P (v .world)) (goodRoster (record { n = n; faulty = faulty })) _ _ (λ e. absurd (omega arith)) (λ g _. h g)
 
 -- a row of public steps
-row-facts : (w : World) (l : List (List ℕ)) → FactsOf w → FactsOf (steppedAll w l)
-unfolding steppedAll
+row-facts : (w : World) (l : List (List ℕ)) → FactsOf w → FactsOf (publicSteps w l)
+unfolding publicSteps
 row-facts w [] f = f
-row-facts w (s ∷ l) f = row-facts (stepped w s .world) l (stepped-keeps FactsOf w s f (λ a. step-facts w a f))
+row-facts w (s ∷ l) f = row-facts (publicStep w s .world) l (public-keeps FactsOf w s f (λ a. step-facts w a f))
 
 pub row-sound : RowSound
 row-sound n faulty l e =
-    world-in (steppedAll (startOf n faulty .world) l) (row-facts (startOf n faulty .world) l (started-keeps FactsOf n faulty (start-facts n faulty) e))
+    world-in (publicSteps (startOf n faulty .world) l) (row-facts (startOf n faulty .world) l (started-keeps FactsOf n faulty (start-facts n faulty) e))

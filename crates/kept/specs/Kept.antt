@@ -15,7 +15,7 @@ use Rattle.format.specs.declared.verdict.Verdict.the-variants.{Accepted}
 use Rattle.format.specs.Records.{Asked, asked}
 use Rattle.format.specs.Judging.{judged}
 use Rattle.protocol.specs.Steps.{stepOf, worldAfter}
-use Rattle.protocol.specs.Runs.{startOf, stepped, startWorld, ranOf}
+use Rattle.protocol.specs.Runs.{startOf, publicStep, startWorld, ranOf}
 
 -- every array of a world has the size that its type says
 pub record Shaped (w : World) : Type 0 where
@@ -52,9 +52,9 @@ abbrev pub RanSound : Type 0
 RanSound = (s : List ℕ) (room k : ℕ) → ranOf s room .verdict ≡ Accepted k → sound (ranOf s room .world) ≡ true
 
 -- and so is the world behind a public start that answers 0 and any row of public steps, each by its bytes
-unfoldable pub steppedAll : World → List (List ℕ) → World
-steppedAll w [] = w
-steppedAll w (s ∷ l) = steppedAll (stepped w s .world) l
+unfoldable pub publicSteps : World → List (List ℕ) → World
+publicSteps w [] = w
+publicSteps w (s ∷ l) = publicSteps (publicStep w s .world) l
 
 abbrev pub RowSound : Type 0
-RowSound = (n faulty : ℕ) (l : List (List ℕ)) → startOf n faulty .number ≡ 0 → sound (steppedAll (startOf n faulty .world) l) ≡ true
+RowSound = (n faulty : ℕ) (l : List (List ℕ)) → startOf n faulty .code ≡ 0 → sound (publicSteps (startOf n faulty .world) l) ≡ true

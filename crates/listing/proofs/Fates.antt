@@ -29,7 +29,7 @@ use Rattle.format.specs.declared.verdict.Verdict.the-variants.{Accepted, Refuse
 use Rattle.format.specs.Fields.{byteAt}
 use Rattle.format.proofs.Reader.{known}
 use Rattle.format.specs.Records.{formOf, readBy, readAt, Asked, Request, Multicast, Arrive, Propose, Settle, Deliver, ForgePacket, ForgeSend, ForgeReceive, askedBy, askedAfter, asked}
-use Rattle.format.specs.Judging.{refusalNumber, scheduleMost, startRoster, judged}
+use Rattle.format.specs.Judging.{refusalCode, scheduleMost, startRoster, judged}
 use Rattle.protocol.specs.declared.ending.Ran.{Ran}
 use Rattle.protocol.specs.Steps.{stepOf, worldAfter, answersOf}
 use Rattle.protocol.specs.Runs.{withRoom, startWorld, ranBy, ranOf, writtenOf}
@@ -47,7 +47,7 @@ answers-length w (a ∷ l) = ap suc (answers-length (stepOf w a .world) l)
 -- the roster stays
 step-roster : (w : World) (a : Asked) → stepOf w a .world .roster ≡ w .roster
 unfolding stepOf
-step-roster w (Request client number seals command) = refl
+step-roster w (Request client serial seals command) = refl
 step-roster w (Multicast server slot) = refl
 step-roster w (Arrive origin place) = refl
 step-roster w (Propose server place) = refl
@@ -116,5 +116,5 @@ accepted s out now r k e ea q =
 
 -- a refused one
 pub refused : (s out : List ℕ) (r : Ran) (why : Refusal) (at : ℕ) → r ≡ ranOf s (length out) → r .verdict ≡ Refused why at
-    → refusedLine (refusalNumber why) at ≡ listingOf s (length out)
+    → refusedLine (refusalCode why) at ≡ listingOf s (length out)
 refused s out r why at e q = listing-is s (length out) (Refused why at) (fate s (length out) r (Refused why at) e q)

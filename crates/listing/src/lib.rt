@@ -6,9 +6,9 @@ ghost use lib.Seq.{sets};
 ghost use Rattle.protocol.specs.Runs.{writtenOf};
 ghost use Rattle.protocol.specs.Listing.{listingOf};
 ghost use Rattle.listing.specs.Longest.{listingMost};
+use format::Verdict;
 use lines::put_refused;
 use lines::put_run;
-use format::Verdict;
 
 mod lines;
 mod texts; // bytes, words and numbers
@@ -30,6 +30,6 @@ pub fn list(schedule: &[u8], answers: &mut [u8], text: &mut [u8]) -> usize
             let world = ran.world;
             put_run(text, answers, records, world)
         }
-        Verdict::Refused(why, offset) => put_refused(text, why.number(), offset),
+        Verdict::Refused(why, offset) => put_refused(text, why.code(), offset),
     }
 }

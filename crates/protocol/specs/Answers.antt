@@ -3,18 +3,18 @@ use Prim.Native.Nat.{ℕ}
 use Rattle.protocol.specs.declared.answer.Answer.{Answer}
 use Rattle.protocol.specs.declared.answer.Answer.the-variants.{Done, Dropped, Wait, Dismissed, BadServer, WrongSide, NoSuch, BadField, SameDigest, NoRoom, Quota, Unknown, WrongDigest, Recall}
 
-abbrev pub answerNumber : Answer → ℕ
-answerNumber Done = 0
-answerNumber Dropped = 1
-answerNumber Wait = 2
-answerNumber Dismissed = 3
-answerNumber BadServer = 4
-answerNumber WrongSide = 5
-answerNumber NoSuch = 6
-answerNumber BadField = 7
-answerNumber SameDigest = 8
-answerNumber NoRoom = 9
-answerNumber Quota = 10
-answerNumber Unknown = 11
-answerNumber WrongDigest = 12
-answerNumber Recall = 13
+abbrev pub answerCode : Answer → ℕ
+answerCode Done = 0
+answerCode Dropped = 1
+answerCode Wait = 2
+answerCode Dismissed = 3
+answerCode BadServer = 4
+answerCode WrongSide = 5
+answerCode NoSuch = 6
+answerCode BadField = 7
+answerCode SameDigest = 8
+answerCode NoRoom = 9
+answerCode Quota = 10
+answerCode Unknown = 11
+answerCode WrongDigest = 12
+answerCode Recall = 13

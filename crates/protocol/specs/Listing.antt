@@ -12,7 +12,7 @@ use Rattle.world.specs.Roster.{faulty, faults, threshold}
 use Rattle.format.specs.declared.verdict.Verdict.{Verdict}
 use Rattle.format.specs.declared.verdict.Verdict.the-variants.{Accepted, Refused}
 use Rattle.format.specs.Records.{asked}
-use Rattle.format.specs.Judging.{refusalNumber, judged}
+use Rattle.format.specs.Judging.{refusalCode, judged}
 use Rattle.protocol.specs.Steps.{worldAfter, answersOf}
 use Rattle.protocol.specs.Runs.{withRoom, startWorld}
 
@@ -109,7 +109,7 @@ runLines records answers w = worldLine (w .roster) records ++ (stepLines 1 answe
 -- the whole listing of a schedule's fate
 abbrev pub listingBy : List ℕ → Verdict → List ℕ
 listingBy s (Accepted records) = runLines records (answersOf (startWorld s) (asked s)) (worldAfter (startWorld s) (asked s))
-listingBy s (Refused why offset) = refusedLine (refusalNumber why) offset
+listingBy s (Refused why offset) = refusedLine (refusalCode why) offset
 
 -- of a schedule with room for so many answers: "On 20 to 25 it prints refused NUMBER OFFSET", on 26 too
 unfoldable pub listingOf : List ℕ → ℕ → List ℕ

@@ -23,18 +23,18 @@ use Rattle.world.specs.Masks.{nobody, has}
 use Rattle.world.specs.Roster.{member, faulty, strays}
 use Rattle.world.specs.Requests.{requestBytes, sameDigest, knownDigest}
 use Rattle.world.specs.Executions.{executionAt, executionOf, opened, called, ordered}
-use Rattle.world.specs.Outgoing.{packetAt, packetFor, freePlace, freePlaces, posted, cleared, needed, sent}
-use Rattle.world.specs.Hold.{entryOf, entryAt, holding, readyPlace, vacancy, put, freed, kept}
+use Rattle.world.specs.Outgoing.{packetAt, packetFor, freeOutgoing, freePlaces, packetAdded, packetFreed, needed, sent}
+use Rattle.world.specs.Hold.{entryOf, entryAt, holding, readyPlace, freeHold, entryPut, entryFreed, entryAdded}
 use Rattle.world.specs.Delivered.{nextOf, appended}
 use Rattle.protocol.specs.declared.answer.Answer.{Answer}
 use Rattle.protocol.specs.declared.answer.Answer.the-variants.{Done, Dropped, Wait, Dismissed, BadServer, WrongSide, NoSuch, BadField, SameDigest, NoRoom, Quota, Unknown, WrongDigest, Recall}
 use Rattle.protocol.specs.declared.boxes.Boxes.{Boxes}
-use Rattle.protocol.specs.declared.boxes.Stepped.{Stepped}
+use Rattle.protocol.specs.declared.boxes.Ruling.{Ruling}
 use Rattle.protocol.specs.declared.boxes.Requested.{Requested}
 use Rattle.search.specs.Tests.{must}
 
 -- an answer beside the boxes. "Only 0 DONE and 1 DROPPED change the world": every other answer below stands beside the boxes as they were.
-abbrev pub answered : Answer → Boxes → Stepped
+abbrev pub answered : Answer → Boxes → Ruling
 answered a b = record { answer = a; boxes = b }
 
 -- the boxes with one of them changed
@@ -65,20 +65,20 @@ recorded r server k b = recordedBy b k (ordered r (called (executionAt (b .execu
 
 -- Request. "A seal bit at n or above: 7. Digest of the 30 bytes equals a stored one: 8. 128 stored: 9. Otherwise stored."
 abbrev pub bareRequest : ℕ → ℕ → ℕ → List ℕ → Request
-bareRequest client number seals command = record { number = number; client = client; seals = seals; command = command; digest = replicate digestBytes 0 }
+bareRequest client serial seals command = record { serial = serial; client = client; seals = seals; command = command; digest = replicate digestBytes 0 }
 
 abbrev pub withDigest : Request → List ℕ → Request
-withDigest q d = record { number = q .number; client = q .client; seals = q .seals; command = q .command; digest = d }
+withDigest q d = record { serial = q .serial; client = q .client; seals = q .seals; command = q .command; digest = d }
 
 unfoldable pub requestFrom : ℕ → ℕ → ℕ → List ℕ → Request
-requestFrom client number seals command = let q = bareRequest client number seals command in withDigest q (digestOf (requestBytes q))
+requestFrom client serial seals command = let q = bareRequest client serial seals command in withDigest q (digestOf (requestBytes q))
 
 abbrev pub storedWith : Answer → Requests → Requested
 storedWith a q = record { answer = a; requests = q }
 
 unfoldable pub requestOf : Roster → ℕ → ℕ → ℕ → List ℕ → Requests → Requested
-requestOf r client number seals command q =
-    let new = requestFrom client number seals command in
+requestOf r client serial seals command q =
+    let new = requestFrom client serial seals command in
     must (not (strays r seals)) (storedWith BadField q)
     (must (not (knownDigest q (new .digest))) (storedWith SameDigest q)
     (must (ltb (q .count) requestsMost) (storedWith NoRoom q)
@@ -90,13 +90,13 @@ requestOf r client number seals command q =
 unfoldable pub multicastDone : Roster → ℕ → ℕ → Boxes → Boxes
 multicastDone r server slot b =
     let id = b .executions .count + 1 in
-    withOutgoing (withHold (made r server id (b .request .digest) b) (kept (b .hold) (entryOf 2 server id slot 0)))
+    withOutgoing (withHold (made r server id (b .request .digest) b) (entryAdded (b .hold) (entryOf 2 server id slot 0)))
     (sent r nobody server (record { id = id; sender = server; slot = slot }) (b .outgoing))
 
 abbrev pub roomy : Roster → ℕ → Boxes → Bool
-roomy r server b = leb (needed r nobody server) (freePlaces (b .outgoing)) && isFound (vacancy (b .hold))
+roomy r server b = leb (needed r nobody server) (freePlaces (b .outgoing)) && isFound (freeHold (b .hold))
 
-unfoldable pub multicastOf : Roster → ℕ → ℕ → Boxes → Stepped
+unfoldable pub multicastOf : Roster → ℕ → ℕ → Boxes → Ruling
 multicastOf r server slot b =
     must (member r server) (answered BadServer b)
     (must (not (faulty r server)) (answered WrongSide b)
@@ -108,27 +108,27 @@ multicastOf r server slot b =
 
 -- Arrive. "Origin: 4. Place: 6. Recipient faulty, or it holds an entry of equal sender, id and slot: place freed, 1. Hold full: 9, the
 -- packet stays. Otherwise the place is freed and an entry at stage one kept, 0."
-unfoldable pub arriveOf : Roster → ℕ → ℕ → Boxes → Stepped
+unfoldable pub arriveOf : Roster → ℕ → ℕ → Boxes → Ruling
 arriveOf r origin place b =
     let p = packetAt (b .outgoing) place in
-    let rest = withOutgoing b (cleared (b .outgoing) place) in
+    let rest = withOutgoing b (packetFreed (b .outgoing) place) in
     must (member r origin) (answered BadServer b)
     (must (p .there) (answered NoSuch b)
     (must (not (faulty r (p .to) || holding (b .hold) (p .sender) (p .id) (p .slot))) (answered Dropped rest)
-    (must (isFound (vacancy (b .hold))) (answered NoRoom b)
-    (answered Done (withHold rest (kept (b .hold) (entryOf 1 (p .sender) (p .id) (p .slot) 0)))))))
+    (must (isFound (freeHold (b .hold))) (answered NoRoom b)
+    (answered Done (withHold rest (entryAdded (b .hold) (entryOf 1 (p .sender) (p .id) (p .slot) 0)))))))
 
 -- an entry at a later stage; and freed, which drops the step
 abbrev pub raised : ℕ → ℕ → ℕ → Boxes → Boxes
 raised place stage number b =
-    let e = entryAt (b .hold) place in withHold b (put (b .hold) place (entryOf stage (e .sender) (e .id) (e .slot) number))
+    let e = entryAt (b .hold) place in withHold b (entryPut (b .hold) place (entryOf stage (e .sender) (e .id) (e .slot) number))
 
-abbrev pub droppedAt : ℕ → Boxes → Stepped
-droppedAt place b = answered Dropped (withHold b (freed (b .hold) place))
+abbrev pub droppedAt : ℕ → Boxes → Ruling
+droppedAt place b = answered Dropped (withHold b (entryFreed (b .hold) place))
 
 -- Propose (entry at stage one). "4, 5, 6. No such execution: 2. Server has called: entry freed, 1. Own seal bit 0: stage two, nothing told
 -- to the orderer, 0. Digest differs: entry freed, 1. Otherwise the call is recorded, the mask too while unnumbered; stage two, 0."
-unfoldable pub proposeTo : Roster → ℕ → ℕ → ℕ → Boxes → Stepped
+unfoldable pub proposeTo : Roster → ℕ → ℕ → ℕ → Boxes → Ruling
 proposeTo r server place k b =
     let x = executionAt (b .executions) k in
     must (not (has (x .called) server)) (droppedAt place b)
@@ -136,11 +136,11 @@ proposeTo r server place k b =
     (must (sameDigest (b .request .digest) (x .digest)) (droppedAt place b)
     (answered Done (recorded r server k (raised place 2 0 b)))))
 
-unfoldable pub proposeFound : Roster → ℕ → ℕ → Boxes → Found → Stepped
+unfoldable pub proposeFound : Roster → ℕ → ℕ → Boxes → Found → Ruling
 proposeFound r server place b (At k) = proposeTo r server place k b
 proposeFound r server place b Nothing = answered Wait b
 
-unfoldable pub proposeOf : Roster → ℕ → ℕ → Boxes → Stepped
+unfoldable pub proposeOf : Roster → ℕ → ℕ → Boxes → Ruling
 proposeOf r server place b =
     let e = entryAt (b .hold) place in
     must (member r server) (answered BadServer b)
@@ -151,7 +151,7 @@ proposeOf r server place b =
 -- Settle (entry at stage two). "4, 5, 6. No number: 2. Entry's digest is not the execution's: freed, 1. Server is not the sender: it needs
 -- one outgoing place for each server outside the final mask, itself excepted; too few: 9; else it sends there, ascending. Then stage three
 -- with the number, 0."
-unfoldable pub settleTo : Roster → ℕ → ℕ → ℕ → Boxes → Stepped
+unfoldable pub settleTo : Roster → ℕ → ℕ → ℕ → Boxes → Ruling
 settleTo r server place k b =
     let e = entryAt (b .hold) place in
     let x = executionAt (b .executions) k in
@@ -162,11 +162,11 @@ settleTo r server place k b =
     (must (leb (needed r (x .mask) server) (freePlaces (b .outgoing))) (answered NoRoom b)
     (answered Done (withOutgoing third (sent r (x .mask) server (record { id = e .id; sender = e .sender; slot = e .slot }) (b .outgoing)))))))
 
-unfoldable pub settleFound : Roster → ℕ → ℕ → Boxes → Found → Stepped
+unfoldable pub settleFound : Roster → ℕ → ℕ → Boxes → Found → Ruling
 settleFound r server place b (At k) = settleTo r server place k b
 settleFound r server place b Nothing = answered Wait b
 
-unfoldable pub settleOf : Roster → ℕ → ℕ → Boxes → Stepped
+unfoldable pub settleOf : Roster → ℕ → ℕ → Boxes → Ruling
 settleOf r server place b =
     let e = entryAt (b .hold) place in
     must (member r server) (answered BadServer b)
@@ -176,29 +176,29 @@ settleOf r server place b =
 
 -- Deliver. "4, 5. No entry at stage three has the server's next number: 2. Otherwise the lowest such place is freed, sender, id and slot are
 -- appended, next number plus one, 0."
-unfoldable pub deliverFound : Boxes → Found → Stepped
+unfoldable pub deliverFound : Boxes → Found → Ruling
 deliverFound b (At k) =
     let e = entryAt (b .hold) k in
-    answered Done (withDelivered (withHold b (freed (b .hold) k)) (appended (b .delivered) (record { id = e .id; sender = e .sender; slot = e .slot })))
+    answered Done (withDelivered (withHold b (entryFreed (b .hold) k)) (appended (b .delivered) (record { id = e .id; sender = e .sender; slot = e .slot })))
 deliverFound b Nothing = answered Wait b
 
-unfoldable pub deliverOf : Roster → ℕ → Boxes → Stepped
+unfoldable pub deliverOf : Roster → ℕ → Boxes → Ruling
 deliverOf r server b =
     must (member r server) (answered BadServer b)
     (must (not (faulty r server)) (answered WrongSide b)
     (deliverFound b (readyPlace (b .hold) (nextOf (b .delivered)))))
 
 -- Forge packet. "4 (any of three), 5 for from, 6, no free outgoing place of from: 9. Otherwise sent. It may claim any sender."
-unfoldable pub forgePacketOf : Roster → ℕ → ℕ → ℕ → ℕ → ℕ → Boxes → Stepped
+unfoldable pub forgePacketOf : Roster → ℕ → ℕ → ℕ → ℕ → ℕ → Boxes → Ruling
 forgePacketOf r from to sender id slot b =
     must (member r from && member r to && member r sender) (answered BadServer b)
     (must (faulty r from) (answered WrongSide b)
     (must (ltb slot (b .stored)) (answered NoSuch b)
-    (must (isFound (freePlace (b .outgoing))) (answered NoRoom b)
-    (answered Done (withOutgoing b (posted (b .outgoing) (packetFor to (record { id = id; sender = sender; slot = slot }))))))))
+    (must (isFound (freeOutgoing (b .outgoing))) (answered NoRoom b)
+    (answered Done (withOutgoing b (packetAdded (b .outgoing) (packetFor to (record { id = id; sender = sender; slot = slot }))))))))
 
 -- Forge send. "4, 5. Key exists: 13. 16 executions: 10. Otherwise made."
-unfoldable pub forgeSendOf : Roster → ℕ → ℕ → List ℕ → Boxes → Stepped
+unfoldable pub forgeSendOf : Roster → ℕ → ℕ → List ℕ → Boxes → Ruling
 forgeSendOf r server id digest b =
     must (member r server) (answered BadServer b)
     (must (faulty r server) (answered WrongSide b)
@@ -207,18 +207,18 @@ forgeSendOf r server id digest b =
     (answered Done (made r server id digest b)))))
 
 -- Forge receive. "4 (either), 5 for server. No execution: 11. Has called: 13. Digest differs: 12. Otherwise recorded as in propose, 0."
-unfoldable pub forgeReceiveTo : Roster → ℕ → List ℕ → ℕ → Boxes → Stepped
+unfoldable pub forgeReceiveTo : Roster → ℕ → List ℕ → ℕ → Boxes → Ruling
 forgeReceiveTo r server digest k b =
     let x = executionAt (b .executions) k in
     must (not (has (x .called) server)) (answered Recall b)
     (must (sameDigest (x .digest) digest) (answered WrongDigest b)
     (answered Done (recorded r server k b)))
 
-unfoldable pub forgeReceiveFound : Roster → ℕ → List ℕ → Boxes → Found → Stepped
+unfoldable pub forgeReceiveFound : Roster → ℕ → List ℕ → Boxes → Found → Ruling
 forgeReceiveFound r server digest b (At k) = forgeReceiveTo r server digest k b
 forgeReceiveFound r server digest b Nothing = answered Unknown b
 
-unfoldable pub forgeReceiveOf : Roster → ℕ → ℕ → ℕ → List ℕ → Boxes → Stepped
+unfoldable pub forgeReceiveOf : Roster → ℕ → ℕ → ℕ → List ℕ → Boxes → Ruling
 forgeReceiveOf r server sender id digest b =
     must (member r server && member r sender) (answered BadServer b)
     (must (faulty r server) (answered WrongSide b)

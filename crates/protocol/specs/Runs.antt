@@ -15,28 +15,28 @@ use Rattle.format.specs.declared.verdict.Verdict.{Verdict}
 use Rattle.format.specs.declared.verdict.Verdict.the-variants.{Accepted, Refused}
 use Rattle.format.specs.Fields.{byteAt}
 use Rattle.format.specs.Records.{readAt, askedFrom, asked}
-use Rattle.format.specs.Judging.{refusalNumber, judged}
-use Rattle.protocol.specs.declared.ending.Taken.{Taken}
+use Rattle.format.specs.Judging.{refusalCode, judged}
+use Rattle.protocol.specs.declared.ending.Outcome.{Outcome}
 use Rattle.protocol.specs.declared.ending.Ran.{Ran}
-use Rattle.protocol.specs.Steps.{taken, stepOf, worldAfter, answersOf}
+use Rattle.protocol.specs.Steps.{ends, stepOf, worldAfter, answersOf}
 
 -- a world of zeros
 abbrev pub noWorld : World
 noWorld = freshWorld 0 0
 
 -- "A start refused with 25 returns a world of zeros."
-unfoldable pub startOf : ℕ → ℕ → Taken
-startOf n faulty = must (goodRoster (record { n = n; faulty = faulty })) (taken (refusalNumber BadStart) noWorld) (taken 0 (freshWorld n faulty))
+unfoldable pub startOf : ℕ → ℕ → Outcome
+startOf n faulty = must (goodRoster (record { n = n; faulty = faulty })) (ends (refusalCode BadStart) noWorld) (ends 0 (freshWorld n faulty))
 
 -- "A step takes a world and the bytes of one record; bytes after the record are ignored. It answers 27 BAD_WORLD exactly when the world is
 -- not sound, then 24 for no bytes, then 22, 23, 24 as above; each leaves the world unchanged."
-unfoldable pub steppedBy : World → List ℕ → Read → Taken
-steppedBy w s (read.Record kind b next) = stepOf w (askedFrom kind s b)
-steppedBy w s (read.Refused why) = taken (refusalNumber why) w
-steppedBy w s read.End = taken (refusalNumber Cut) w
+unfoldable pub publicStepBy : World → List ℕ → Read → Outcome
+publicStepBy w s (read.Record kind b next) = stepOf w (askedFrom kind s b)
+publicStepBy w s (read.Refused why) = ends (refusalCode why) w
+publicStepBy w s read.End = ends (refusalCode Cut) w
 
-unfoldable pub stepped : World → List ℕ → Taken
-stepped w s = must (sound w) (taken (refusalNumber BadWorld) w) (steppedBy w s (readAt s 0))
+unfoldable pub publicStep : World → List ℕ → Outcome
+publicStep w s = must (sound w) (ends (refusalCode BadWorld) w) (publicStepBy w s (readAt s 0))
 
 -- 26 comes last: "lent answer buffer shorter than one byte per record after the start"
 abbrev pub withRoom : ℕ → Verdict → Verdict

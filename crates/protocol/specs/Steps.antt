@@ -1,4 +1,4 @@
--- What a step does to the whole world: the boxes that it touches are taken out, its rule is applied to them, and they are put back.
+-- What a step does to the whole world: the boxes that it touches are ends out, its rule is applied to them, and they are put back.
 use Prim.Native.Nat.{ℕ}
 use mathlib.Core.List.{List, [], _∷_}
 use lib.ListN.{getD, set}
@@ -10,17 +10,17 @@ use Rattle.world.specs.Outgoing.{packetAt}
 use Rattle.world.specs.Hold.{entryAt}
 use Rattle.world.specs.Boxes.{within, seat, outgoingOf, holdOf}
 use Rattle.protocol.specs.declared.boxes.Boxes.{Boxes}
-use Rattle.protocol.specs.declared.boxes.Stepped.{Stepped}
+use Rattle.protocol.specs.declared.boxes.Ruling.{Ruling}
 use Rattle.protocol.specs.declared.boxes.Requested.{Requested}
-use Rattle.protocol.specs.Answers.{answerNumber}
+use Rattle.protocol.specs.Answers.{answerCode}
 use Rattle.protocol.specs.Rules.{requestOf, multicastOf, arriveOf, proposeOf, settleOf, deliverOf, forgePacketOf, forgeSendOf, forgeReceiveOf}
 use Rattle.format.specs.Records.{Asked, Request, Multicast, Arrive, Propose, Settle, Deliver, ForgePacket, ForgeSend, ForgeReceive}
 use Rattle.protocol.specs.declared.boxes.Touch.{Touch}
-use Rattle.protocol.specs.declared.ending.Taken.{Taken}
+use Rattle.protocol.specs.declared.ending.Outcome.{Outcome}
 
--- an answer's number and the world after
-abbrev pub taken : ℕ → World → Taken
-taken a w = record { number = a; world = w }
+-- a code and the world after
+abbrev pub ends : ℕ → World → Outcome
+ends code w = record { code = code; world = w }
 
 -- whose boxes a step touches: the outgoing places and delivered list of one server, the hold of one, the executions of one sender, and the
 -- request of one slot
@@ -49,11 +49,11 @@ putBack w t b = record {
   delivered = set (w .delivered) (t .server) (b .delivered);
 }
 
-abbrev pub putBackStep : World → Touch → Stepped → Taken
-putBackStep w t s = taken (answerNumber (s .answer)) (putBack w t (s .boxes))
+abbrev pub putBackStep : World → Touch → Ruling → Outcome
+putBackStep w t s = ends (answerCode (s .answer)) (putBack w t (s .boxes))
 
 -- a rule on the boxes
-abbrev pub on : World → Touch → (Boxes → Stepped) → Taken
+abbrev pub on : World → Touch → (Boxes → Ruling) → Outcome
 on w t rule = putBackStep w t (rule (boxesOf w t))
 
 abbrev pub withRequests : World → Requests → World
@@ -67,12 +67,12 @@ withRequests w q = record {
   delivered = w .delivered;
 }
 
-abbrev pub putRequests : World → Requested → Taken
-putRequests w r = taken (answerNumber (r .answer)) (withRequests w (r .requests))
+abbrev pub putRequests : World → Requested → Outcome
+putRequests w r = ends (answerCode (r .answer)) (withRequests w (r .requests))
 
 -- each step, with the boxes that document 01's rule speaks of: a packet's recipient, an entry's sender and slot
-unfoldable pub stepOf : World → Asked → Taken
-stepOf w (Request client number seals command) = putRequests w (requestOf (w .roster) client number seals command (w .requests))
+unfoldable pub stepOf : World → Asked → Outcome
+stepOf w (Request client serial seals command) = putRequests w (requestOf (w .roster) client serial seals command (w .requests))
 stepOf w (Multicast server slot) = on w (touch server server server slot) (multicastOf (w .roster) server slot)
 stepOf w (Arrive origin place) = on w (touch origin (packetAt (outgoingOf w origin) place .to) origin 0) (arriveOf (w .roster) origin place)
 stepOf w (Propose server place) =
@@ -91,4 +91,4 @@ worldAfter w (a ∷ l) = worldAfter (stepOf w a .world) l
 
 unfoldable pub answersOf : World → List Asked → List ℕ
 answersOf w [] = []
-answersOf w (a ∷ l) = stepOf w a .number ∷ answersOf (stepOf w a .world) l
+answersOf w (a ∷ l) = stepOf w a .code ∷ answersOf (stepOf w a .world) l

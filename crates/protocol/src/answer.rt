@@ -1,6 +1,6 @@
 // The answers to a step.
 ghost use mathlib.Core.Path.{_≡_};
-ghost use Rattle.protocol.specs.Answers.{answerNumber};
+ghost use Rattle.protocol.specs.Answers.{answerCode};
 
 pub enum Answer {
     Done,
@@ -20,9 +20,9 @@ pub enum Answer {
 }
 
 impl Answer {
-    // The number that document 01 gives it.
-    pub fn number(self) -> u8
-        ensures { λ r. ⌜ r ≡ answerNumber self ⌝ }
+    // The code that document 01 gives it.
+    pub fn code(self) -> u8
+        ensures { λ r. ⌜ r ≡ answerCode self ⌝ }
     {
         match self {
             Answer::Done => 0,

@@ -23,7 +23,7 @@ pub struct Boxes {
     pub delivered: Delivered,
 }
 
-pub struct Stepped {
+pub struct Ruling {
     pub answer: Answer,
     pub boxes: Boxes,
 }

@@ -2,10 +2,10 @@
 use format::Verdict;
 use world::World;
 
-// An answer's number, and the world after.
+// A step's or a start's end: the code of its answer or refusal, and the world after.
 #[repr(C)]
-pub struct Taken {
-    pub number: u8,
+pub struct Outcome {
+    pub code: u8,
     pub world: World,
 }
 

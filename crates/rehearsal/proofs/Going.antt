@@ -1,4 +1,4 @@
--- What a run that has taken k records knows. Assumes nothing.
+-- What a run that has ends k records knows. Assumes nothing.
 use mathlib.Core.Path.{_≡_, refl, sym, ap, _∙_}
 use mathlib.Core.Bool.{Bool, true, false, cond}
 use mathlib.Core.List.{List, [], _∷_, _++_, append-assoc, append-nil}
@@ -17,9 +17,9 @@ use Rattle.world.specs.Roster.{goodRoster}
 use Rattle.world.specs.Outgoing.{packetAt}
 use Rattle.world.specs.Hold.{entryAt}
 use Rattle.world.specs.Boxes.{seat}
-use Rattle.protocol.specs.declared.boxes.Stepped.{Stepped}
+use Rattle.protocol.specs.declared.boxes.Ruling.{Ruling}
 use Rattle.protocol.specs.declared.boxes.Requested.{Requested}
-use Rattle.protocol.specs.Answers.{answerNumber}
+use Rattle.protocol.specs.Answers.{answerCode}
 use Rattle.protocol.specs.Rules.{requestOf}
 use Rattle.format.specs.declared.kinds.Act.{Act}
 use Rattle.format.specs.declared.kinds.Act.the-variants as act
@@ -38,7 +38,7 @@ use Rattle.format.specs.Records.{formOf, readAt, Asked, askedFrom, askedBy, ask
 use Rattle.format.specs.Judging.{ended, scanBy, scanFrom, scanned, scheduleMost, startJudged, recordsJudged, judged}
 use Rattle.format.proofs.Reader.{Known, known, isRecord}
 use Rattle.protocol.specs.declared.boxes.Touch.{Touch}
-use Rattle.protocol.specs.Steps.{taken, withRequests, putBack, boxesOf, stepOf, worldAfter, answersOf}
+use Rattle.protocol.specs.Steps.{ends, withRequests, putBack, boxesOf, stepOf, worldAfter, answersOf}
 use Rattle.rehearsal.specs.Acts.{touchBy, touchOf, actOf}
 use Rattle.rehearsal.proofs.Lenses.{lens}
 
@@ -79,23 +79,23 @@ going-room {s} {out₀} {out} {w₀} {v} {at} {k} b next j g q =
     let l : length out ≡ length out₀ = g .size in
     omega arith
 
-answers-more : (v : World) (x : Asked) (l : List Asked) (a : ℕ) (v′ : World) → taken a v′ ≡ stepOf v x → answersOf v (x ∷ l) ≡ a ∷ answersOf v′ l
+answers-more : (v : World) (x : Asked) (l : List Asked) (a : ℕ) (v′ : World) → ends a v′ ≡ stepOf v x → answersOf v (x ∷ l) ≡ a ∷ answersOf v′ l
 unfolding answersOf
 answers-more v x l a v′ e = rw (← e)
 
-world-more : (v : World) (x : Asked) (l : List Asked) (a : ℕ) (v′ : World) → taken a v′ ≡ stepOf v x → worldAfter v (x ∷ l) ≡ worldAfter v′ l
+world-more : (v : World) (x : Asked) (l : List Asked) (a : ℕ) (v′ : World) → ends a v′ ≡ stepOf v x → worldAfter v (x ∷ l) ≡ worldAfter v′ l
 unfolding worldAfter
 world-more v x l a v′ e = rw (← e)
 
-taken-more : (out rest : List ℕ) (k a : ℕ) → k < length out → take (k + 1) (set out k a) ++ rest ≡ take k out ++ (a ∷ rest)
-taken-more out rest k a p = rw (add-one, take-suc-set, append-assoc)
+told-more : (out rest : List ℕ) (k a : ℕ) → k < length out → take (k + 1) (set out k a) ++ rest ≡ take k out ++ (a ∷ rest)
+told-more out rest k a p = rw (add-one, take-suc-set, append-assoc)
 
 drop-later : (l m : List ℕ) (k : ℕ) → drop k l ≡ drop k m → drop (k + 1) l ≡ drop (k + 1) m
 drop-later l m k e = sym (drop-drop 1 k l) ∙ rw e (drop-drop 1 k m)
 
 -- one record more
 pub going-on : {s out₀ out : List ℕ} {w₀ v : World} {at k : ℕ} (b next a : ℕ) (j : Kind) (v′ : World) → Going s out₀ w₀ out v at k → readAt s at ≡ Record j b next
-    → taken a v′ ≡ stepOf v (askedFrom j s b) → Going s out₀ w₀ (set out k a) v′ next (k + 1)
+    → ends a v′ ≡ stepOf v (askedFrom j s b) → Going s out₀ w₀ (set out k a) v′ next (k + 1)
 going-on {s} {out₀} {out} {w₀} {v} {at} {k} b next a j v′ g q t =
     let r = rest-is s at k b next j (g .near) q in
     let o : Known s at b next = known s at b next j q in
@@ -108,15 +108,15 @@ going-on {s} {out₀} {out} {w₀} {v} {at} {k} b next a j v′ g q t =
       room = g .room;
       size = simp length-set (g .size);
       count = omega arith;
-      answers = taken-more out (answersOf v′ (restOf s next (k + 1))) k a p ∙ rw (← answers-more v (askedFrom j s b) (restOf s next (k + 1)) a v′ t, ← r) (g .answers);
+      answers = told-more out (answersOf v′ (restOf s next (k + 1))) k a p ∙ rw (← answers-more v (askedFrom j s b) (restOf s next (k + 1)) a v′ t, ← r) (g .answers);
       beyond = rw (drop-set-lt (k + 1) out k a f) (drop-later out out₀ k (g .beyond));
       world = rw (← world-more v (askedFrom j s b) (restOf s next (k + 1)) a v′ t, ← r) (g .world);
     }
 
 -- a request's turn
 pub store-turn : (s : List ℕ) (b n : ℕ) (j : Kind) (v : World) (r : Requested) → j ≡ kind.Request
-    → r ≡ requestOf (v .roster) (byteAt s b) (fourAt s (b + 1)) (byteAt s (b + 5)) (bytesAt s (b + 6) commandBytes) (v .requests) → n ≡ answerNumber (r .answer)
-    → taken n (withRequests v (r .requests)) ≡ stepOf v (askedFrom j s b)
+    → r ≡ requestOf (v .roster) (byteAt s b) (fourAt s (b + 1)) (byteAt s (b + 5)) (bytesAt s (b + 6) commandBytes) (v .requests) → n ≡ answerCode (r .answer)
+    → ends n (withRequests v (r .requests)) ≡ stepOf v (askedFrom j s b)
 unfolding stepOf
 store-turn s b n j v r ej er en = rw (ej, en, er)
 
@@ -125,11 +125,11 @@ touch-is : (s : List ℕ) (b x y i : ℕ) (a : Act) (v : World) (p : Packet) (e 
     → p ≡ packetAt (getD (v .outgoing) i (record { places = [] })) y → e ≡ entryAt (getD (v .holds) i (record { places = [] })) y → t ≡ touchBy a x y p e → t ≡ touchOf v a s b
 touch-is s b x y i a v p e t ex ey ei ep ee et = rw (et, ep, ee, ei, ex, ey)
 
--- an act's turn: the boxes are taken out, its rule is applied, and they are put back
-pub act-turn : (s : List ℕ) (b n x y i : ℕ) (j : Kind) (a : Act) (v : World) (p : Packet) (e : Entry) (t : Touch) (r : Stepped) → j ≡ kind.Act a
+-- an act's turn: the boxes are ends out, its rule is applied, and they are put back
+pub act-turn : (s : List ℕ) (b n x y i : ℕ) (j : Kind) (a : Act) (v : World) (p : Packet) (e : Entry) (t : Touch) (r : Ruling) → j ≡ kind.Act a
     → x ≡ byteAt s b → y ≡ byteAt s (b + 1) → i ≡ seat x → p ≡ packetAt (getD (v .outgoing) i (record { places = [] })) y
-    → e ≡ entryAt (getD (v .holds) i (record { places = [] })) y → t ≡ touchBy a x y p e → r ≡ actOf (v .roster) a s b (boxesOf v t) → n ≡ answerNumber (r .answer)
-    → taken n (putBack v t (r .boxes)) ≡ stepOf v (askedFrom j s b)
+    → e ≡ entryAt (getD (v .holds) i (record { places = [] })) y → t ≡ touchBy a x y p e → r ≡ actOf (v .roster) a s b (boxesOf v t) → n ≡ answerCode (r .answer)
+    → ends n (putBack v t (r .boxes)) ≡ stepOf v (askedFrom j s b)
 act-turn s b n x y i j a v p e t r ej ex ey ei ep ee et er en =
     let z : t ≡ touchOf v a s b = touch-is s b x y i a v p e t ex ey ei ep ee et in
     rw (ej, en, er, z) (lens v a s b)

@@ -12,7 +12,7 @@ use Rattle.world.specs.Outgoing.{packetAt}
 use Rattle.world.specs.Hold.{entryAt}
 use Rattle.world.specs.Boxes.{outgoingOf, holdOf}
 use Rattle.protocol.specs.declared.boxes.Boxes.{Boxes}
-use Rattle.protocol.specs.declared.boxes.Stepped.{Stepped}
+use Rattle.protocol.specs.declared.boxes.Ruling.{Ruling}
 use Rattle.protocol.specs.Rules.{multicastOf, arriveOf, proposeOf, settleOf, deliverOf, forgePacketOf, forgeSendOf, forgeReceiveOf}
 use Rattle.format.specs.declared.kinds.Act.{Act}
 use Rattle.format.specs.declared.kinds.Act.the-variants.{Multicast, Arrive, Propose, Settle, Deliver, ForgePacket, ForgeSend, ForgeReceive}
@@ -41,7 +41,7 @@ abbrev pub touchOf : World → Act → List ℕ → ℕ → Touch
 touchOf w a s b =
     touchBy a (byteAt s b) (byteAt s (b + 1)) (packetAt (outgoingOf w (byteAt s b)) (byteAt s (b + 1))) (entryAt (holdOf w (byteAt s b)) (byteAt s (b + 1)))
 
-abbrev pub actOf : Roster → Act → List ℕ → ℕ → Boxes → Stepped
+abbrev pub actOf : Roster → Act → List ℕ → ℕ → Boxes → Ruling
 actOf r Multicast s b boxes = multicastOf r (byteAt s b) (byteAt s (b + 1)) boxes
 actOf r Arrive s b boxes = arriveOf r (byteAt s b) (byteAt s (b + 1)) boxes
 actOf r Propose s b boxes = proposeOf r (byteAt s b) (byteAt s (b + 1)) boxes

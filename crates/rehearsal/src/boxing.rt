@@ -12,7 +12,7 @@ ghost use Rattle.world.specs.Sizes.{commandBytes};
 use format::Act;
 use protocol::Boxes;
 use protocol::Requested;
-use protocol::Stepped;
+use protocol::Ruling;
 use protocol::Touch;
 use schedule::byte_at;
 use schedule::command_at;
@@ -100,7 +100,7 @@ pub(crate) fn touch_by(act: Act, x: u8, y: u8, p: Packet, e: Entry) -> Touch
 }
 
 // The rule of a record whose body starts at b, on the boxes.
-pub(crate) fn act(act: Act, s: &[u8], b: usize, roster: Roster, boxes: Boxes) -> Stepped
+pub(crate) fn act(act: Act, s: &[u8], b: usize, roster: Roster, boxes: Boxes) -> Ruling
     requires { ⌜ b ≤ length (now s) ⌝ }
     ensures { λ r. ⌜ r ≡ actOf roster act (now (s .entry)) b boxes ⌝ }
 {

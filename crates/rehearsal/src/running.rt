@@ -50,7 +50,7 @@ pub fn run(s: &[u8], answers: &mut [u8]) -> Ran
             let q = v.requests;
             let stored = store(s, start, v.roster, q);
             let told = stored.answer;
-            answers[k] = told.number();
+            answers[k] = told.code();
             let q = stored.requests;
             v.requests = q;
             k += 1;
@@ -97,7 +97,7 @@ pub fn run(s: &[u8], answers: &mut [u8]) -> Ran
         v.holds[holder] = hold;
         let delivered = b.delivered;
         v.delivered[server] = delivered;
-        answers[k] = answer.number();
+        answers[k] = answer.code();
         k += 1;
         at = next;
     }

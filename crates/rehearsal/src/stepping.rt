@@ -5,7 +5,7 @@ ghost use lib.ListN.{length};
 ghost use Rattle.format.specs.Records.{askedFrom};
 ghost use Rattle.format.specs.declared.kinds.Kind.the-variants.{Request, Act as Acting};
 ghost use Rattle.protocol.specs.Steps.{stepOf};
-ghost use Rattle.protocol.specs.Runs.{stepped};
+ghost use Rattle.protocol.specs.Runs.{publicStep};
 use crate::boxing::act;
 use crate::boxing::seat_of;
 use crate::boxing::store;
@@ -15,13 +15,13 @@ use format::Kind;
 use format::Read;
 use format::Refusal;
 use protocol::Boxes;
-use protocol::Taken;
+use protocol::Outcome;
 use schedule::byte_at;
 use schedule::read_at;
 use world::World;
 
 // The request of a record whose body starts at b, on the whole world.
-fn store_in(w: World, s: &[u8], b: usize) -> Taken
+fn store_in(w: World, s: &[u8], b: usize) -> Outcome
     requires { ⌜ b ≤ length (now s) ⌝ }
     ensures { λ r. ⌜ r ≡ stepOf w (askedFrom Request (now (s .entry)) b) ⌝ }
 {
@@ -31,14 +31,14 @@ fn store_in(w: World, s: &[u8], b: usize) -> Taken
     let q = stored.requests;
     let mut v = w;
     v.requests = q;
-    Taken {
-        number: answer.number(),
+    Outcome {
+        code: answer.code(),
         world: v,
     }
 }
 
-// The act of a record whose body starts at b, on the whole world: the boxes that it touches are taken out and put back.
-fn act_in(w: World, a: Act, s: &[u8], b: usize) -> Taken
+// The act of a record whose body starts at b, on the whole world: the boxes that it touches are ends out and put back.
+fn act_in(w: World, a: Act, s: &[u8], b: usize) -> Outcome
     requires { ⌜ b ≤ length (now s) ⌝ }
     ensures { λ r. ⌜ r ≡ stepOf w (askedFrom (Acting a) (now (s .entry)) b) ⌝ }
 {
@@ -78,29 +78,29 @@ fn act_in(w: World, a: Act, s: &[u8], b: usize) -> Taken
     v.holds[holder] = hold;
     let delivered = c.delivered;
     v.delivered[server] = delivered;
-    Taken {
-        number: answer.number(),
+    Outcome {
+        code: answer.code(),
         world: v,
     }
 }
 
 // The step of one record, from a sound world; bytes behind the record are ignored.
-pub fn step(w: World, s: &[u8]) -> Taken
-    ensures { λ r. ⌜ r ≡ stepped w (now (s .entry)) ⌝ }
+pub fn step(w: World, s: &[u8]) -> Outcome
+    ensures { λ r. ⌜ r ≡ publicStep w (now (s .entry)) ⌝ }
 {
     if !soundness::sound(w) {
-        return Taken {
-            number: Refusal::BadWorld.number(),
+        return Outcome {
+            code: Refusal::BadWorld.code(),
             world: w,
         };
     }
     match read_at(s, 0) {
-        Read::End => Taken {
-            number: Refusal::Cut.number(),
+        Read::End => Outcome {
+            code: Refusal::Cut.code(),
             world: w,
         },
-        Read::Refused(why) => Taken {
-            number: why.number(),
+        Read::Refused(why) => Outcome {
+            code: why.code(),
             world: w,
         },
         Read::Record {

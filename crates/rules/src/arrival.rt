@@ -1,17 +1,17 @@
 // Arrive.
 ghost use mathlib.Core.Path.{_≡_};
-ghost use Rattle.world.specs.Outgoing.{cleared};
+ghost use Rattle.world.specs.Outgoing.{packetFreed};
 ghost use Rattle.protocol.specs.Rules.{arriveOf, withOutgoing};
 use crate::boxes::answer;
 use protocol::Answer;
 use protocol::Boxes;
-use protocol::Stepped;
+use protocol::Ruling;
 use world::Entry;
 use world::Roster;
 
 // The packet's place freed.
 fn taken(place: u8, b: Boxes) -> Boxes
-    ensures { λ r. ⌜ r ≡ withOutgoing b (cleared (b .outgoing) place) ⌝ }
+    ensures { λ r. ⌜ r ≡ withOutgoing b (packetFreed (b .outgoing) place) ⌝ }
 {
     let o = b.outgoing.clear(place);
     let mut v = b;
@@ -20,7 +20,7 @@ fn taken(place: u8, b: Boxes) -> Boxes
 }
 
 // A packet of an origin reaches its recipient.
-pub fn arrive(roster: Roster, origin: u8, place: u8, b: Boxes) -> Stepped
+pub fn arrive(roster: Roster, origin: u8, place: u8, b: Boxes) -> Ruling
     ensures { λ r. ⌜ r ≡ arriveOf roster origin place b ⌝ }
 {
     if !roster.member(origin) {

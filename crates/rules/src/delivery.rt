@@ -4,14 +4,14 @@ ghost use Rattle.protocol.specs.Rules.{deliverOf};
 use crate::boxes::answer;
 use protocol::Answer;
 use protocol::Boxes;
-use protocol::Stepped;
+use protocol::Ruling;
 use search::Found;
 use world::Entry;
 use world::Item;
 use world::Roster;
 
 // A correct server delivers the entry that has its next number.
-pub fn deliver(roster: Roster, server: u8, b: Boxes) -> Stepped
+pub fn deliver(roster: Roster, server: u8, b: Boxes) -> Ruling
     ensures { λ r. ⌜ r ≡ deliverOf roster server b ⌝ }
 {
     if !roster.member(server) {

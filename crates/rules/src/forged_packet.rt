@@ -4,7 +4,7 @@ ghost use Rattle.protocol.specs.Rules.{forgePacketOf};
 use crate::boxes::answer;
 use protocol::Answer;
 use protocol::Boxes;
-use protocol::Stepped;
+use protocol::Ruling;
 use search::Found;
 use world::Packet;
 use world::Roster;
@@ -19,7 +19,7 @@ pub fn forge_packet(
     id: u16,
     slot: u8,
     b: Boxes,
-) -> Stepped
+) -> Ruling
     ensures { λ r. ⌜ r ≡ forgePacketOf roster from to sender id slot b ⌝ }
 {
     if !(roster.member(from) & roster.member(to) & roster.member(sender)) {

@@ -5,23 +5,17 @@ ghost use Rattle.world.specs.Sizes.{executionsMost};
 ghost use Rattle.protocol.specs.Rules.{forgeReceiveOf, forgeReceiveTo};
 use crate::boxes::answer;
 use crate::orderer::record;
+use fips180::Digest;
 use protocol::Answer;
 use protocol::Boxes;
-use protocol::Stepped;
-use fips180::Digest;
+use protocol::Ruling;
 use search::Found;
 use world::Roster;
 use world::has;
 use world::same_digest;
 
 // The call at an execution that exists.
-fn receive_to(
-    roster: Roster,
-    server: u8,
-    digest: [u8; Digest::BYTES],
-    k: usize,
-    b: Boxes,
-) -> Stepped
+fn receive_to(roster: Roster, server: u8, digest: [u8; Digest::BYTES], k: usize, b: Boxes) -> Ruling
     requires { ⌜ k < executionsMost ⌝ }
     ensures { λ r. ⌜ r ≡ forgeReceiveTo roster server digest k b ⌝ }
 {
@@ -45,7 +39,7 @@ pub fn forge_receive(
     id: u16,
     digest: [u8; Digest::BYTES],
     b: Boxes,
-) -> Stepped
+) -> Ruling
     ensures { λ r. ⌜ r ≡ forgeReceiveOf roster server sender id digest b ⌝ }
 {
     if !(roster.member(server) & roster.member(sender)) {

@@ -3,10 +3,10 @@ ghost use mathlib.Core.Path.{_≡_};
 ghost use Rattle.protocol.specs.Rules.{forgeSendOf};
 use crate::boxes::answer;
 use crate::orderer::make;
+use fips180::Digest;
 use protocol::Answer;
 use protocol::Boxes;
-use protocol::Stepped;
-use fips180::Digest;
+use protocol::Ruling;
 use search::Found;
 use world::Executions;
 use world::Roster;
@@ -18,7 +18,7 @@ pub fn forge_send(
     id: u16,
     digest: [u8; Digest::BYTES],
     b: Boxes,
-) -> Stepped
+) -> Ruling
     ensures { λ r. ⌜ r ≡ forgeSendOf roster server id digest b ⌝ }
 {
     if !roster.member(server) {

@@ -1,16 +1,16 @@
 // What a step does to one entry of the hold.
 ghost use mathlib.Core.Path.{_≡_};
-ghost use Rattle.world.specs.Hold.{freed};
+ghost use Rattle.world.specs.Hold.{entryFreed};
 ghost use Rattle.protocol.specs.Rules.{raised, droppedAt};
 use crate::boxes::answer;
 use crate::boxes::put;
 use protocol::Answer;
 use protocol::Boxes;
-use protocol::Stepped;
+use protocol::Ruling;
 use world::Entry;
 
 // The entry freed: the step is dropped.
-pub(crate) fn drop_entry(b: Boxes, place: u8) -> Stepped
+pub(crate) fn drop_entry(b: Boxes, place: u8) -> Ruling
     ensures { λ r. ⌜ r ≡ droppedAt place b ⌝ }
 {
     answer(put(b, place, Entry::free()), Answer::Dropped)

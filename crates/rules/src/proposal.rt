@@ -9,7 +9,7 @@ use crate::holding::raise;
 use crate::orderer::record;
 use protocol::Answer;
 use protocol::Boxes;
-use protocol::Stepped;
+use protocol::Ruling;
 use search::Found;
 use world::Entry;
 use world::Roster;
@@ -17,7 +17,7 @@ use world::has;
 use world::same_digest;
 
 // The proposal at an execution that exists.
-fn propose_to(roster: Roster, server: u8, place: u8, k: usize, b: Boxes) -> Stepped
+fn propose_to(roster: Roster, server: u8, place: u8, k: usize, b: Boxes) -> Ruling
     requires { ⌜ k < executionsMost ⌝ }
     ensures { λ r. ⌜ r ≡ proposeTo roster server place k b ⌝ }
 {
@@ -34,11 +34,14 @@ fn propose_to(roster: Roster, server: u8, place: u8, k: usize, b: Boxes) -> Step
     if !same_digest(own, known) {
         return drop_entry(b, place);
     }
-    answer(record(raise(b, place, Entry::TWO, 0), roster, server, k), Answer::Done)
+    answer(
+        record(raise(b, place, Entry::TWO, 0), roster, server, k),
+        Answer::Done,
+    )
 }
 
 // A correct server tells the orderer of an entry at stage one.
-pub fn propose(roster: Roster, server: u8, place: u8, b: Boxes) -> Stepped
+pub fn propose(roster: Roster, server: u8, place: u8, b: Boxes) -> Ruling
     ensures { λ r. ⌜ r ≡ proposeOf roster server place b ⌝ }
 {
     if !roster.member(server) {

@@ -7,7 +7,7 @@ use crate::boxes::answer;
 use crate::orderer::make;
 use protocol::Answer;
 use protocol::Boxes;
-use protocol::Stepped;
+use protocol::Ruling;
 use world::Entry;
 use world::Executions;
 use world::Roster;
@@ -51,7 +51,7 @@ fn has_room(roster: Roster, server: u8, b: Boxes) -> bool
 }
 
 // A correct server sends a request that it has a good seal for.
-pub fn multicast(roster: Roster, server: u8, slot: u8, b: Boxes) -> Stepped
+pub fn multicast(roster: Roster, server: u8, slot: u8, b: Boxes) -> Ruling
     ensures { λ r. ⌜ r ≡ multicastOf roster server slot b ⌝ }
 {
     if !roster.member(server) {

@@ -8,7 +8,7 @@ use crate::holding::drop_entry;
 use crate::holding::raise;
 use protocol::Answer;
 use protocol::Boxes;
-use protocol::Stepped;
+use protocol::Ruling;
 use search::Found;
 use world::Entry;
 use world::Execution;
@@ -18,7 +18,7 @@ use world::recipients;
 use world::same_digest;
 
 // The settling of an entry at an execution that exists.
-fn settle_to(roster: Roster, server: u8, place: u8, k: usize, b: Boxes) -> Stepped
+fn settle_to(roster: Roster, server: u8, place: u8, k: usize, b: Boxes) -> Ruling
     requires { ⌜ k < executionsMost ⌝ }
     ensures { λ r. ⌜ r ≡ settleTo roster server place k b ⌝ }
 {
@@ -55,7 +55,7 @@ fn settle_to(roster: Roster, server: u8, place: u8, k: usize, b: Boxes) -> Stepp
 }
 
 // A correct server takes over the number of an entry at stage two, and forwards it.
-pub fn settle(roster: Roster, server: u8, place: u8, b: Boxes) -> Stepped
+pub fn settle(roster: Roster, server: u8, place: u8, b: Boxes) -> Ruling
     ensures { λ r. ⌜ r ≡ settleOf roster server place b ⌝ }
 {
     if !roster.member(server) {

@@ -8,11 +8,11 @@ use world::Requests;
 use world::Roster;
 
 // The request that the fields make, with its digest.
-fn sealed(client: u8, number: u32, seals: u8, command: [u8; Request::COMMAND]) -> Request
-    ensures { λ r. ⌜ r ≡ requestFrom client number seals command ⌝ }
+fn digested(client: u8, serial: u32, seals: u8, command: [u8; Request::COMMAND]) -> Request
+    ensures { λ r. ⌜ r ≡ requestFrom client serial seals command ⌝ }
 {
     let bare = Request {
-        number,
+        serial,
         client,
         seals,
         command,
@@ -21,7 +21,7 @@ fn sealed(client: u8, number: u32, seals: u8, command: [u8; Request::COMMAND]) -
     let bytes = bare.bytes();
     let digest = digest::sha256(&bytes).bytes;
     Request {
-        number,
+        serial,
         client,
         seals,
         command,
@@ -34,11 +34,11 @@ pub fn request(
     roster: Roster,
     requests: Requests,
     client: u8,
-    number: u32,
+    serial: u32,
     seals: u8,
     command: [u8; Request::COMMAND],
 ) -> Requested
-    ensures { λ r. ⌜ r ≡ requestOf roster client number seals command requests ⌝ }
+    ensures { λ r. ⌜ r ≡ requestOf roster client serial seals command requests ⌝ }
 {
     if roster.strays(seals) {
         return Requested {
@@ -46,7 +46,7 @@ pub fn request(
             requests,
         };
     }
-    let new = sealed(client, number, seals, command);
+    let new = digested(client, serial, seals, command);
     let d = new.digest;
     if requests.knows(d) {
         return Requested {

@@ -30,7 +30,7 @@ pub(crate) fn zero_request(q: Request) -> bool
 {
     let command = q.command;
     let digest = q.digest;
-    (q.number == 0) & (q.client == 0) & (q.seals == 0) & zero_bytes(&command) & zero_bytes(&digest)
+    (q.serial == 0) & (q.client == 0) & (q.seals == 0) & zero_bytes(&command) & zero_bytes(&digest)
 }
 
 // Whether a place of an execution is all zeros.

@@ -39,19 +39,19 @@ abbrev pub readyPlace : Hold → ℕ → Found
 readyPlace h number = first (λ (k : ℕ). isReady (entryAt h k) number) holdPlaces
 
 -- the lowest free place
-abbrev pub vacancy : Hold → Found
-vacancy h = first (λ (k : ℕ). eqb (entryAt h k .stage) 0) holdPlaces
+abbrev pub freeHold : Hold → Found
+freeHold h = first (λ (k : ℕ). eqb (entryAt h k .stage) 0) holdPlaces
 
-abbrev pub put : Hold → ℕ → Entry → Hold
-put h place e = record { places = set (h .places) place e }
+abbrev pub entryPut : Hold → ℕ → Entry → Hold
+entryPut h place e = record { places = set (h .places) place e }
 
-abbrev pub freed : Hold → ℕ → Hold
-freed h place = put h place freeEntry
+abbrev pub entryFreed : Hold → ℕ → Hold
+entryFreed h place = entryPut h place freeEntry
 
 -- an entry more, at the lowest free place
-unfoldable pub keptAt : Hold → Entry → Found → Hold
-keptAt h e (At place) = put h place e
-keptAt h e Nothing = h
+unfoldable pub entryAddedAt : Hold → Entry → Found → Hold
+entryAddedAt h e (At place) = entryPut h place e
+entryAddedAt h e Nothing = h
 
-unfoldable pub kept : Hold → Entry → Hold
-kept h e = keptAt h e (vacancy h)
+unfoldable pub entryAdded : Hold → Entry → Hold
+entryAdded h e = entryAddedAt h e (freeHold h)

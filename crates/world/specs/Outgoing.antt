@@ -32,25 +32,25 @@ abbrev pub isFree : Outgoing → ℕ → Bool
 isFree o place = not (packetAt o place .there)
 
 -- the lowest free place, and how many there are
-abbrev pub freePlace : Outgoing → Found
-freePlace o = first (λ (k : ℕ). isFree o k) outgoingPlaces
+abbrev pub freeOutgoing : Outgoing → Found
+freeOutgoing o = first (λ (k : ℕ). isFree o k) outgoingPlaces
 
 abbrev pub freePlaces : Outgoing → ℕ
 freePlaces o = count (λ (k : ℕ). isFree o k) outgoingPlaces
 
-abbrev pub putPacket : Outgoing → ℕ → Packet → Outgoing
-putPacket o place p = record { places = set (o .places) place p }
+abbrev pub packetPut : Outgoing → ℕ → Packet → Outgoing
+packetPut o place p = record { places = set (o .places) place p }
 
-abbrev pub cleared : Outgoing → ℕ → Outgoing
-cleared o place = putPacket o place freePacket
+abbrev pub packetFreed : Outgoing → ℕ → Outgoing
+packetFreed o place = packetPut o place freePacket
 
 -- a packet more, at the lowest free place
-unfoldable pub postedAt : Outgoing → Packet → Found → Outgoing
-postedAt o p (At place) = putPacket o place p
-postedAt o p Nothing = o
+unfoldable pub packetAddedAt : Outgoing → Packet → Found → Outgoing
+packetAddedAt o p (At place) = packetPut o place p
+packetAddedAt o p Nothing = o
 
-unfoldable pub posted : Outgoing → Packet → Outgoing
-posted o p = postedAt o p (freePlace o)
+unfoldable pub packetAdded : Outgoing → Packet → Outgoing
+packetAdded o p = packetAddedAt o p (freeOutgoing o)
 
 -- a server outside the mask, the sending one excepted; with nobody in the mask, each other server
 abbrev pub recipient : Roster → ℕ → ℕ → ℕ → Bool
@@ -63,7 +63,7 @@ needed r mask server = count (λ (to : ℕ). recipient r mask server to) servers
 -- one packet for each of them, ascending: up to the first n servers, and up to all
 unfoldable pub sentBelow : Roster → ℕ → ℕ → Sending → Outgoing → ℕ → Outgoing
 sentBelow r mask server s o zero = o
-sentBelow r mask server s o (suc n) = let p = sentBelow r mask server s o n in cond (recipient r mask server n) (posted p (packetFor n s)) p
+sentBelow r mask server s o (suc n) = let p = sentBelow r mask server s o n in cond (recipient r mask server n) (packetAdded p (packetFor n s)) p
 
 abbrev pub sent : Roster → ℕ → ℕ → Sending → Outgoing → Outgoing
 sent r mask server s o = sentBelow r mask server s o servers

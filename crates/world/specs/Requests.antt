@@ -13,21 +13,21 @@ use Rattle.world.specs.Sizes.{requestsMost, commandBytes}
 
 -- a slot that is not given: all zeros
 abbrev pub unusedRequest : Request
-unusedRequest = record { number = 0; client = 0; seals = 0; command = replicate commandBytes 0; digest = replicate digestBytes 0 }
+unusedRequest = record { serial = 0; client = 0; seals = 0; command = replicate commandBytes 0; digest = replicate digestBytes 0 }
 
 unfoldable pub freshRequests : Requests
 freshRequests = record { slots = replicate requestsMost unusedRequest; count = 0 }
 
 -- what a read past the last slot gives
 abbrev pub noRequest : Request
-noRequest = record { number = 0; client = 0; seals = 0; command = []; digest = [] }
+noRequest = record { serial = 0; client = 0; seals = 0; command = []; digest = [] }
 
 abbrev pub requestAt : Requests → ℕ → Request
 requestAt q slot = getD (q .slots) slot noRequest
 
 -- "the 30 bytes": client, number (4), seals, command (24), as the record has them
 unfoldable pub requestBytes : Request → List ℕ
-requestBytes r = r .client ∷ (be 4 (r .number) ++ r .seals ∷ r .command)
+requestBytes r = r .client ∷ (be 4 (r .serial) ++ r .seals ∷ r .command)
 
 -- two digests are equal where none of their bytes differs
 unfoldable pub sameDigest : List ℕ → List ℕ → Bool

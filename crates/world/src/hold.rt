@@ -1,7 +1,7 @@
 // The entries that one server holds, each at a stage.
 ghost use mathlib.Core.Path.{_≡_};
 ghost use Rattle.search.specs.Search.{isFound};
-ghost use Rattle.world.specs.Hold.{entryOf, freeEntry, freshHold, entryAt, isEntry, holding, isReady, readyPlace, vacancy, kept, put};
+ghost use Rattle.world.specs.Hold.{entryOf, freeEntry, freshHold, entryAt, isEntry, holding, isReady, readyPlace, freeHold, entryAdded, entryPut};
 use search::Found;
 
 #[repr(C)]
@@ -124,7 +124,7 @@ impl Hold {
 
     // The lowest free place.
     pub fn free(self) -> Found
-        ensures { λ r. ⌜ r ≡ vacancy self ⌝ }
+        ensures { λ r. ⌜ r ≡ freeHold self ⌝ }
     {
         let mut k: usize = 0;
         loop {
@@ -140,7 +140,7 @@ impl Hold {
 
     // Whether a place is free.
     pub fn has_room(self) -> bool
-        ensures { λ r. ⌜ r ≡ isFound (vacancy self) ⌝ }
+        ensures { λ r. ⌜ r ≡ isFound (freeHold self) ⌝ }
     {
         let Found::At(_) = self.free() else {
             return false;
@@ -150,7 +150,7 @@ impl Hold {
 
     // The entry at the lowest free place; where there is none, the hold as it was.
     pub fn keep(self, entry: Entry) -> Hold
-        ensures { λ r. ⌜ r ≡ kept self entry ⌝ }
+        ensures { λ r. ⌜ r ≡ entryAdded self entry ⌝ }
     {
         let Found::At(k) = self.free() else {
             return self;
@@ -162,7 +162,7 @@ impl Hold {
 
     // Another entry at a place. Past the places, nothing changes.
     pub fn put(self, place: usize, entry: Entry) -> Hold
-        ensures { λ r. ⌜ r ≡ put self place entry ⌝ }
+        ensures { λ r. ⌜ r ≡ entryPut self place entry ⌝ }
     {
         if Hold::PLACES <= place {
             return self;

@@ -1,7 +1,7 @@
 // The packets that one server has sent and that have not arrived.
 ghost use mathlib.Core.Path.{_≡_};
 ghost use mathlib.Core.Bool.{cond};
-ghost use Rattle.world.specs.Outgoing.{freePacket, packetFor, freshOutgoing, packetAt, freePlace, freePlaces, posted, cleared, sent, needed, recipient};
+ghost use Rattle.world.specs.Outgoing.{freePacket, packetFor, freshOutgoing, packetAt, freeOutgoing, freePlaces, packetAdded, packetFreed, sent, needed, recipient};
 use crate::mask::has;
 use crate::roster::Roster;
 use search::Found;
@@ -81,7 +81,7 @@ impl Outgoing {
 
     // The lowest free place.
     pub fn free(self) -> Found
-        ensures { λ r. ⌜ r ≡ freePlace self ⌝ }
+        ensures { λ r. ⌜ r ≡ freeOutgoing self ⌝ }
     {
         let mut place: usize = 0;
         loop {
@@ -112,7 +112,7 @@ impl Outgoing {
 
     // The packet at the lowest free place; where there is none, the packets as they were.
     pub fn post(self, packet: Packet) -> Outgoing
-        ensures { λ r. ⌜ r ≡ posted self packet ⌝ }
+        ensures { λ r. ⌜ r ≡ packetAdded self packet ⌝ }
     {
         let Found::At(k) = self.free() else {
             return self;
@@ -124,7 +124,7 @@ impl Outgoing {
 
     // The place freed.
     pub fn clear(self, place: u8) -> Outgoing
-        ensures { λ r. ⌜ r ≡ cleared self place ⌝ }
+        ensures { λ r. ⌜ r ≡ packetFreed self place ⌝ }
     {
         let k = place as usize;
         if Outgoing::PLACES <= k {
@@ -137,7 +137,7 @@ impl Outgoing {
 
     // A packet to one server, where it is a recipient.
     fn send_to(self, roster: Roster, mask: u8, server: u8, to: u8, sending: Sending) -> Outgoing
-        ensures { λ r. ⌜ r ≡ cond (recipient roster mask server to) (posted self (packetFor to sending)) self ⌝ }
+        ensures { λ r. ⌜ r ≡ cond (recipient roster mask server to) (packetAdded self (packetFor to sending)) self ⌝ }
     {
         if !is_recipient(roster, mask, server, to) {
             return self;

@@ -5,7 +5,8 @@ use fips180::Digest;
 
 #[repr(C)]
 pub struct Request {
-    pub number: u32,
+    // The client's own number for it.
+    pub serial: u32,
     pub client: u8,
     // Bit i: the client's seal for server i is good.
     pub seals: u8,
@@ -20,7 +21,7 @@ pub struct Requests {
 }
 
 impl Request {
-    // The bytes ahead of the command: the client, the number's four and the seals.
+    // The bytes ahead of the command: the client, its number's four and the seals.
     pub const HEAD: usize = 1 + 4 + 1;
 
     pub const COMMAND: usize = 24;
@@ -33,7 +34,7 @@ impl Request {
         ensures { λ r. ⌜ r ≡ unusedRequest ⌝ }
     {
         Request {
-            number: 0,
+            serial: 0,
             client: 0,
             seals: 0,
             command: [0; Request::COMMAND],
@@ -55,10 +56,10 @@ impl Request {
     {
         let mut b = [0u8; Request::BYTES];
         b[0] = self.client;
-        b[1] = ((self.number >> 24) % 256) as u8;
-        b[2] = ((self.number >> 16) % 256) as u8;
-        b[3] = ((self.number >> 8) % 256) as u8;
-        b[4] = (self.number % 256) as u8;
+        b[1] = ((self.serial >> 24) % 256) as u8;
+        b[2] = ((self.serial >> 16) % 256) as u8;
+        b[3] = ((self.serial >> 8) % 256) as u8;
+        b[4] = (self.serial % 256) as u8;
         b[5] = self.seals;
         let mut i: usize = 0;
         while i < Request::COMMAND {

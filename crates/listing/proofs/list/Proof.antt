@@ -17,8 +17,8 @@ put-run-requires c κs = let a = accepted (c .before .before .before .before .be
 enum-known-verdict-2 : tie.Need-enum-known-verdict-2
 enum-known-verdict-2 c = search needs
 
-number-requires : tie.Need-number-requires
-number-requires c κs = search needs
+code-requires : tie.Need-code-requires
+code-requires c κs = search needs
 
 put-refused-requires : tie.Need-put-refused-requires
 put-refused-requires c κs = search needs
@@ -41,7 +41,7 @@ same-length-4 : tie.Need-same-length-4
 same-length-4 c = wrote-length (c .before .before .put-refused .ensures .0)
 
 returns-2 : tie.Need-returns-2
-returns-2 c = let t = listed _ (rw (c .before .before .before .number .ensures) at (c .before .before .put-refused .ensures .0)) (refused (c .before .before .before .before .before .before .before .before .before .before .before .before .before .before .before .args .schedule .now) (c .before .before .before .before .before .before .before .before .before .before .before .before .before .before .before .args .answers .now) (c .before .before .before .before .before .before .before .before .before .before .run .result) _ _ (c .before .before .before .before .before .before .before .before .before .before .run .ensures .0) (c .before .before .before .before .before .before .verdict2 .given .1)) in
+returns-2 c = let t = listed _ (rw (c .before .before .before .code .ensures) at (c .before .before .put-refused .ensures .0)) (refused (c .before .before .before .before .before .before .before .before .before .before .before .before .before .before .before .args .schedule .now) (c .before .before .before .before .before .before .before .before .before .before .before .before .before .before .before .args .answers .now) (c .before .before .before .before .before .before .before .before .before .before .run .result) _ _ (c .before .before .before .before .before .before .before .before .before .before .run .ensures .0) (c .before .before .before .before .before .before .verdict2 .given .1)) in
     (t .0, (c .before .before .put-refused .ensures .1, (c .before .before .before .before .before .before .before .before .before .before .run .ensures .1, t .1)))
 
 pub list-spec : {M : Type 1} → statement M
@@ -52,7 +52,7 @@ list-spec =
     enum-known-verdict
     put-run-requires
     enum-known-verdict-2
-    number-requires
+    code-requires
     put-refused-requires
     same-length
     same-length-2

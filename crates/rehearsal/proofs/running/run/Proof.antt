@@ -6,7 +6,7 @@ use native.Mathlib.Omega.{arith}
 use borrow.Author.Tests.{le-leb, lt-leb}
 use lib.ListN.{length}
 use Rattle.search.specs.Tests.{must}
-use Rattle.protocol.specs.Answers.{answerNumber}
+use Rattle.protocol.specs.Answers.{answerCode}
 use Rattle.format.specs.Records.{readAt}
 use Rattle.format.specs.Judging.{judged}
 use Rattle.format.specs.declared.verdict.Verdict.the-variants.{Accepted}
@@ -90,8 +90,8 @@ enum-told-2 c = search needs
 store-requires : tie.Need-store-requires Inv-loop μ-loop
 store-requires c κs = omega (arith, known _ _ _ _ _ (sym (c .before .before .before .before .before .before .before .read-at .ensures) ∙ c .before .before .before .before .before .kind .given .1))
 
-number-requires : tie.Need-number-requires Inv-loop μ-loop
-number-requires c κs = search needs
+code-requires : tie.Need-code-requires Inv-loop μ-loop
+code-requires c κs = search needs
 
 slice-write-answers : tie.Need-slice-write-answers Inv-loop μ-loop
 slice-write-answers c = going-room _ _ _ (c .before .before .before .before .before .before .before .before .before .before .loop .inv) (sym (c .before .before .before .before .before .before .before .before .before .read-at .ensures) ∙ c .before .before .before .before .before .before .before .kind .given .1)
@@ -104,7 +104,7 @@ loop-less c = omega (arith, known _ _ _ _ _ (sym (c .before .before .before .bef
 
 loop-again : tie.Need-loop-again Inv-loop μ-loop
 loop-again c =
-    going-on _ _ _ _ _ (c .before .before .before .before .before .before .before .before .before .before .before .loop .inv) (sym (c .before .before .before .before .before .before .before .before .before .before .read-at .ensures) ∙ c .before .before .before .before .before .before .before .before .kind .given .1) (store-turn _ _ _ _ _ (c .before .before .store .result) (c .before .before .before .before .before .enum-told2 .given .1) (c .before .before .store .ensures) (c .before .number .ensures))
+    going-on _ _ _ _ _ (c .before .before .before .before .before .before .before .before .before .before .before .loop .inv) (sym (c .before .before .before .before .before .before .before .before .before .before .read-at .ensures) ∙ c .before .before .before .before .before .before .before .before .kind .given .1) (store-turn _ _ _ _ _ (c .before .before .store .result) (c .before .before .before .before .before .enum-told2 .given .1) (c .before .before .store .ensures) (c .before .code .ensures))
 
 byte-at-requires-3 : tie.Need-byte-at-requires-3 Inv-loop μ-loop
 byte-at-requires-3 c κs = search needs
@@ -196,8 +196,8 @@ mul-delivered-2 c = search needs
 element-set-from-delivered : tie.Need-element-set-from-delivered Inv-loop μ-loop
 element-set-from-delivered c = search needs
 
-number-requires-2 : tie.Need-number-requires-2 Inv-loop μ-loop
-number-requires-2 c κs = search needs
+code-requires-2 : tie.Need-code-requires-2 Inv-loop μ-loop
+code-requires-2 c κs = search needs
 
 slice-write-answers-2 : tie.Need-slice-write-answers-2 Inv-loop μ-loop
 slice-write-answers-2 c = going-room _ _ _ (c .before .before .before .before .before .before .before .before .before .before .before .before .before .before .before .before .before .before .before .before .before .before .before .before .before .before .before .before .before .loop .inv) (sym (c .before .before .before .before .before .before .before .before .before .before .before .before .before .before .before .before .before .before .before .before .before .before .before .before .before .before .before .before .read-at .ensures) ∙ c .before .before .before .before .before .before .before .before .before .before .before .before .before .before .before .before .before .before .before .before .before .before .before .before .before .before .kind .given .1)
@@ -211,7 +211,7 @@ loop-less-2 c = omega (arith, known _ _ _ _ _ (sym (c .before .before .before .b
 loop-again-2 : tie.Need-loop-again-2 Inv-loop μ-loop
 loop-again-2 c =
     going-on _ _ _ _ _ (c .before .before .before .before .before .before .before .before .before .before .before .before .before .before .before .before .before .before .before .before .before .before .before .before .before .before .before .before .before .loop .inv) (sym (c .before .before .before .before .before .before .before .before .before .before .before .before .before .before .before .before .before .before .before .before .before .before .before .before .before .before .before .before .read-at .ensures) ∙ c .before .before .before .before .before .before .before .before .before .before .before .before .before .before .before .before .before .before .before .before .before .before .before .before .before .before .kind .given .1)
-    (act-turn _ _ _ _ _ _ _ _ (c .before .before .before .before .before .before .before .before .before .before .before .before .before .before .before .before .before .before .before .before .before .before .before .before .before .before .before .before .before .loop .v) _ _ _ (c .before .before .before .before .before .before .act .result) (c .before .before .before .before .before .before .before .before .before .before .before .before .before .before .before .before .before .before .before .before .before .before .before .kind2 .given .1) (c .before .before .before .before .before .before .before .before .before .before .before .before .before .before .before .before .before .before .before .before .before .byte-at3 .ensures) (c .before .before .before .before .before .before .before .before .before .before .before .before .before .before .before .before .before .before .before .before .byte-at4 .ensures) (c .before .before .before .before .before .before .before .before .before .before .before .before .before .before .before .before .before .before .before .seat-of .ensures .0) (c .before .before .before .before .before .before .before .before .before .before .before .before .before .before .before .before .before .at .ensures) (c .before .before .before .before .before .before .before .before .before .before .before .before .before .before .before .at2 .ensures) (c .before .before .before .before .before .before .before .before .before .before .before .before .before .before .touch-by .ensures .0) (c .before .before .before .before .before .before .act .ensures) (c .number2 .ensures))
+    (act-turn _ _ _ _ _ _ _ _ (c .before .before .before .before .before .before .before .before .before .before .before .before .before .before .before .before .before .before .before .before .before .before .before .before .before .before .before .before .before .loop .v) _ _ _ (c .before .before .before .before .before .before .act .result) (c .before .before .before .before .before .before .before .before .before .before .before .before .before .before .before .before .before .before .before .before .before .before .before .kind2 .given .1) (c .before .before .before .before .before .before .before .before .before .before .before .before .before .before .before .before .before .before .before .before .before .byte-at3 .ensures) (c .before .before .before .before .before .before .before .before .before .before .before .before .before .before .before .before .before .before .before .before .byte-at4 .ensures) (c .before .before .before .before .before .before .before .before .before .before .before .before .before .before .before .before .before .before .before .seat-of .ensures .0) (c .before .before .before .before .before .before .before .before .before .before .before .before .before .before .before .before .before .at .ensures) (c .before .before .before .before .before .before .before .before .before .before .before .before .before .before .before .at2 .ensures) (c .before .before .before .before .before .before .before .before .before .before .before .before .before .before .touch-by .ensures .0) (c .before .before .before .before .before .before .act .ensures) (c .code2 .ensures))
 
 pub run-spec : {M : Type 1} → statement M
 run-spec =
@@ -237,7 +237,7 @@ run-spec =
     enum-known-kind-2
     enum-told-2
     store-requires
-    number-requires
+    code-requires
     slice-write-answers
     add-k
     loop-less
@@ -272,7 +272,7 @@ run-spec =
     element-set-from-hold
     mul-delivered-2
     element-set-from-delivered
-    number-requires-2
+    code-requires-2
     slice-write-answers-2
     add-k-2
     loop-less-2

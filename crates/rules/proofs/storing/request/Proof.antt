@@ -14,22 +14,22 @@ returns : tie.Need-returns
 unfolding requestOf must
 returns c = simp (← c .before .strays .ensures, c .if1 .taken)
 
-sealed-requires : tie.Need-sealed-requires
-sealed-requires c κs = search needs
+digested-requires : tie.Need-digested-requires
+digested-requires c κs = search needs
 
 knows-requires : tie.Need-knows-requires
 knows-requires c κs = search needs
 
 returns-2 : tie.Need-returns-2
 unfolding requestOf must
-returns-2 c = simp (← c .before .before .before .before .before .strays .ensures, c .before .before .before .before .if1 .left, ← c .before .before .before .sealed .ensures, ← c .before .knows .ensures, c .if2 .taken)
+returns-2 c = simp (← c .before .before .before .before .before .strays .ensures, c .before .before .before .before .if1 .left, ← c .before .before .before .digested .ensures, ← c .before .knows .ensures, c .if2 .taken)
 
 cast-at : tie.Need-cast-at
 cast-at c = search needs
 
 returns-3 : tie.Need-returns-3
 unfolding requestOf must
-returns-3 c = simp (← c .before .before .before .before .before .before .strays .ensures, c .before .before .before .before .before .if1 .left, ← c .before .before .before .before .sealed .ensures, ← c .before .before .knows .ensures, c .before .if2 .left, le-ltb _ _ (c .if3 .taken))
+returns-3 c = simp (← c .before .before .before .before .before .before .strays .ensures, c .before .before .before .before .before .if1 .left, ← c .before .before .before .before .digested .ensures, ← c .before .before .knows .ensures, c .before .if2 .left, le-ltb _ _ (c .if3 .taken))
 
 mul-new : tie.Need-mul-new
 mul-new c = search needs
@@ -42,7 +42,7 @@ add-q c = search needs
 
 returns-4 : tie.Need-returns-4
 unfolding requestOf must
-returns-4 c = simp (← c .before .before .before .before .before .before .strays .ensures, c .before .before .before .before .before .if1 .left, ← c .before .before .before .before .sealed .ensures, ← c .before .before .knows .ensures, c .before .if2 .left, lt-ltb _ _ (c .if3 .left))
+returns-4 c = simp (← c .before .before .before .before .before .before .strays .ensures, c .before .before .before .before .before .if1 .left, ← c .before .before .before .before .digested .ensures, ← c .before .before .knows .ensures, c .before .if2 .left, lt-ltb _ _ (c .if3 .left))
 
 pub request-spec : {M : Type 1} → statement M
 request-spec =
@@ -50,7 +50,7 @@ request-spec =
     (tie.spec
     strays-requires
     returns
-    sealed-requires
+    digested-requires
     knows-requires
     returns-2
     cast-at

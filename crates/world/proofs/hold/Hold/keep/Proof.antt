@@ -1,7 +1,7 @@
 use Prim.Native.Nat.{_<_}
 use native.Mathlib.Omega.{arith}
 use Rattle.search.proofs.Laws.{found-in}
-use Rattle.world.specs.Hold.{kept, keptAt}
+use Rattle.world.specs.Hold.{entryAdded, entryAddedAt}
 use borrow.Author.Needs.{needs}
 use Rattle.world.proofs.hold.Hold.keep.Statement.{statement}
 use Rattle.world.proofs.hold.Hold.keep.Tie as tie
@@ -19,7 +19,7 @@ enum-told : tie.Need-enum-told
 enum-told c = search needs
 
 returns : tie.Need-returns
-unfolding kept keptAt
+unfolding entryAdded entryAddedAt
 returns c = rw (← c .before .before .free .ensures, c .enum-told .given .1)
 
 mul-entry : tie.Need-mul-entry
@@ -29,7 +29,7 @@ element-set-from-entry : tie.Need-element-set-from-entry
 element-set-from-entry c = below (c .before)
 
 returns-2 : tie.Need-returns-2
-unfolding kept keptAt
+unfolding entryAdded entryAddedAt
 returns-2 c = rw (← c .before .before .before .free .ensures, c .before .k .given .1)
 
 pub keep-spec : {M : Type 1} → statement M

@@ -1,7 +1,7 @@
 use Prim.Native.Nat.{_<_}
 use native.Mathlib.Omega.{arith}
 use Rattle.search.proofs.Laws.{found-in}
-use Rattle.world.specs.Outgoing.{posted, postedAt}
+use Rattle.world.specs.Outgoing.{packetAdded, packetAddedAt}
 use borrow.Author.Needs.{needs}
 use Rattle.world.proofs.outgoing.Outgoing.post.Statement.{statement}
 use Rattle.world.proofs.outgoing.Outgoing.post.Tie as tie
@@ -19,7 +19,7 @@ enum-told : tie.Need-enum-told
 enum-told c = search needs
 
 returns : tie.Need-returns
-unfolding posted postedAt
+unfolding packetAdded packetAddedAt
 returns c = rw (← c .before .before .free .ensures, c .enum-told .given .1)
 
 mul-packet : tie.Need-mul-packet
@@ -29,7 +29,7 @@ element-set-from-packet : tie.Need-element-set-from-packet
 element-set-from-packet c = below (c .before)
 
 returns-2 : tie.Need-returns-2
-unfolding posted postedAt
+unfolding packetAdded packetAddedAt
 returns-2 c = rw (← c .before .before .before .free .ensures, c .before .k .given .1)
 
 pub post-spec : {M : Type 1} → statement M

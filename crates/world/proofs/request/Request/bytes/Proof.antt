@@ -15,7 +15,7 @@ use Rattle.world.proofs.request.Request.bytes.Tie as tie
 
 -- what stands ahead of the command
 head : Request → List ℕ
-head r = r .client ∷ (be 4 (r .number) ++ r .seals ∷ [])
+head r = r .client ∷ (be 4 (r .serial) ++ r .seals ∷ [])
 
 abbrev Inv-loop : tie.InvT-loop
 Inv-loop self b₀ i₀ b i = (i ≤ 24) × ((length b ≡ 30) × (take (6 + i) b ≡ head self ++ take i (self .command)))
@@ -57,8 +57,8 @@ loop-holds : tie.Need-loop-holds Inv-loop μ-loop
 unfolding head
 loop-holds c =
     let r = c .args .t1 in
-    let e : r .number ≡ r .number / 2 ^ 0 = omega arith in
-    (search needs, (refl, ap (λ (y : ℕ). r .client ∷ r .number / 2 ^ 24 % 256 ∷ r .number / 2 ^ 16 % 256 ∷ r .number / 2 ^ 8 % 256 ∷ y % 256 ∷ r .seals ∷ []) e))
+    let e : r .serial ≡ r .serial / 2 ^ 0 = omega arith in
+    (search needs, (refl, ap (λ (y : ℕ). r .client ∷ r .serial / 2 ^ 24 % 256 ∷ r .serial / 2 ^ 16 % 256 ∷ r .serial / 2 ^ 8 % 256 ∷ y % 256 ∷ r .seals ∷ []) e))
 
 element-copy-out-b : tie.Need-element-copy-out-b Inv-loop μ-loop
 element-copy-out-b c = search needs

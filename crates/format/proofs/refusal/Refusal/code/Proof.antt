@@ -1,6 +1,6 @@
 use borrow.Author.Needs.{needs}
-use Rattle.format.proofs.refusal.Refusal.number.Statement.{statement}
-use Rattle.format.proofs.refusal.Refusal.number.Tie as tie
+use Rattle.format.proofs.refusal.Refusal.code.Statement.{statement}
+use Rattle.format.proofs.refusal.Refusal.code.Tie as tie
 
 enum-told : tie.Need-enum-told
 enum-told c = search needs
@@ -50,5 +50,5 @@ returns-7 c = search needs
 returns-8 : tie.Need-returns-8
 returns-8 c = search needs
 
-pub number-spec : {M : Type 1} → statement M
-number-spec = tie.close (tie.spec enum-told enum-told-2 enum-told-3 enum-told-4 enum-told-5 enum-told-6 enum-told-7 enum-told-8 returns returns-2 returns-3 returns-4 returns-5 returns-6 returns-7 returns-8)
+pub code-spec : {M : Type 1} → statement M
+code-spec = tie.close (tie.spec enum-told enum-told-2 enum-told-3 enum-told-4 enum-told-5 enum-told-6 enum-told-7 enum-told-8 returns returns-2 returns-3 returns-4 returns-5 returns-6 returns-7 returns-8)

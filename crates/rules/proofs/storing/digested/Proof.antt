@@ -8,8 +8,8 @@ use Rattle.fips180.specs.declared.Digest.{Digest}
 use Rattle.digest.proofs.Short.{short-digest}
 use Rattle.protocol.specs.Rules.{requestFrom}
 use borrow.Author.Needs.{needs}
-use Rattle.rules.proofs.storing.sealed.Statement.{statement}
-use Rattle.rules.proofs.storing.sealed.Tie as tie
+use Rattle.rules.proofs.storing.digested.Statement.{statement}
+use Rattle.rules.proofs.storing.digested.Tie as tie
 
 bytes-requires : tie.Need-bytes-requires
 bytes-requires c κs = search needs
@@ -26,5 +26,5 @@ returns c =
     let l : length (c .before .before .before .bytes .result) ≤ 55 = omega arith in
     rw (ap (λ (d : Digest). d .bytes) (c .before .sha256 .ensures) ∙ short-digest (c .before .before .before .bytes .result) l ∙ ap digestOf (c .before .before .before .bytes .ensures))
 
-pub sealed-spec : {M : Type 1} → statement M
-sealed-spec = tie.close (tie.spec bytes-requires slice-aggregate-sha256 sha256-requires returns)
+pub digested-spec : {M : Type 1} → statement M
+digested-spec = tie.close (tie.spec bytes-requires slice-aggregate-sha256 sha256-requires returns)

@@ -1,6 +1,6 @@
 use borrow.Author.Needs.{needs}
-use Rattle.protocol.proofs.answer.Answer.number.Statement.{statement}
-use Rattle.protocol.proofs.answer.Answer.number.Tie as tie
+use Rattle.protocol.proofs.answer.Answer.code.Statement.{statement}
+use Rattle.protocol.proofs.answer.Answer.code.Tie as tie
 
 enum-told : tie.Need-enum-told
 enum-told c = search needs
@@ -86,5 +86,5 @@ returns-13 c = search needs
 returns-14 : tie.Need-returns-14
 returns-14 c = search needs
 
-pub number-spec : {M : Type 1} → statement M
-number-spec = tie.close (tie.spec enum-told enum-told-2 enum-told-3 enum-told-4 enum-told-5 enum-told-6 enum-told-7 enum-told-8 enum-told-9 enum-told-10 enum-told-11 enum-told-12 enum-told-13 enum-told-14 returns returns-2 returns-3 returns-4 returns-5 returns-6 returns-7 returns-8 returns-9 returns-10 returns-11 returns-12 returns-13 returns-14)
+pub code-spec : {M : Type 1} → statement M
+code-spec = tie.close (tie.spec enum-told enum-told-2 enum-told-3 enum-told-4 enum-told-5 enum-told-6 enum-told-7 enum-told-8 enum-told-9 enum-told-10 enum-told-11 enum-told-12 enum-told-13 enum-told-14 returns returns-2 returns-3 returns-4 returns-5 returns-6 returns-7 returns-8 returns-9 returns-10 returns-11 returns-12 returns-13 returns-14)
