@@ -58,15 +58,24 @@ impl Program {
     /// What the program printed for an input, or why there is nothing to compare. It does not run on afterwards.
     pub fn run(&self, input: &[u8]) -> Result<Vec<u8>, String> {
         let begin = Instant::now();
-        let mut command = Command::new(&self.path);
-        let piped = command.stdin(Stdio::piped()).stdout(Stdio::piped()).stderr(Stdio::piped());
-        let mut child = piped.spawn().map_err(|why| self.told("cannot be started", why))?;
+        let mut child = self.start()?;
         let printed = self.follow(&mut child, input, begin);
         if printed.is_err() {
             // It may have ended on its own by now.
             let _ = child.kill().and_then(|()| child.wait());
         }
         printed
+    }
+
+    /// Starts the program, with pipes for all that it reads and prints. That a path leads to no file is seen ahead:
+    /// under an emulator it shows only as a bad end.
+    fn start(&self) -> Result<Child, String> {
+        if self.path.components().count() > 1 && !self.path.is_file() {
+            return Err(self.told("cannot be started", "there is no such file"));
+        }
+        let mut command = Command::new(&self.path);
+        let piped = command.stdin(Stdio::piped()).stdout(Stdio::piped()).stderr(Stdio::piped());
+        piped.spawn().map_err(|why| self.told("cannot be started", why))
     }
 
     /// Hands a running program its input and follows it to its end.

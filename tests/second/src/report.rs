@@ -33,7 +33,10 @@ impl Failed<'_> {
         let schedule = generate::schedule(*seed, *index);
         say(format!("schedule {index} of seed {seed} differs: {why}"));
         say(format!("shrinking its {} bytes", schedule.len()));
-        let small = shrunk(&schedule, most, |candidate| differs(candidate).is_err());
+        let (small, in_time) = shrunk(&schedule, most, |candidate| differs(candidate).is_err());
+        if !in_time {
+            say(format!("it could be smaller: shrinking was stopped after {} s", most.as_secs()));
+        }
         let saved = save(&format!("{file}-{seed}-{index}"), &small);
         print(readable::of_schedule(&small).as_bytes());
         if let Err(why) = differs(&small) {
@@ -50,8 +53,8 @@ pub fn fail(comparison: &str, how: &str, again: &[String]) -> ! {
     process::exit(FAILED);
 }
 
-/// A smaller schedule that still fails, as small as it gets in the time.
-fn shrunk(schedule: &[u8], most: Duration, fails: impl Fn(&[u8]) -> bool) -> Vec<u8> {
+/// A smaller schedule that still fails, and whether the time was enough for all tries.
+fn shrunk(schedule: &[u8], most: Duration, fails: impl Fn(&[u8]) -> bool) -> (Vec<u8>, bool) {
     let begin = Instant::now();
     let in_time = || begin.elapsed() < most;
     let progress = RefCell::new((Progress::on_terminal(), 0));
@@ -62,10 +65,7 @@ fn shrunk(schedule: &[u8], most: Duration, fails: impl Fn(&[u8]) -> bool) -> Vec
         in_time() && fails(candidate)
     });
     progress.borrow_mut().0.clear();
-    if !in_time() {
-        say(format!("it could be smaller: shrinking took more than {} seconds", most.as_secs()));
-    }
-    small
+    (small, in_time())
 }
 
 /// Saves bytes in a new file, and says where they are: NAME.bin, or NAME-2.bin and so on if that has something else.
@@ -83,5 +83,19 @@ fn save_new(file: &str, bytes: &[u8]) -> Option<String> {
             is_same.then(|| format!("which {file} has already"))
         }
         Err(why) => Some(format!("which cannot be saved in {file}: {why}")),
+    }
+}
+
+#[cfg(test)]
+mod tests {
+    use super::*;
+
+    #[test]
+    fn shrinking_stops_when_time_is_up() {
+        let schedule = generate::schedule(1, 0);
+        let stopped = shrunk(&schedule, Duration::ZERO, |_| panic!("there is no time for a try"));
+        assert_eq!(stopped, (schedule.clone(), false));
+        let (small, in_time) = shrunk(&schedule, Duration::from_secs(600), |candidate| candidate.len() >= 3);
+        assert_eq!((small.len(), in_time), (3, true));
     }
 }
