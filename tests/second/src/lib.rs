@@ -2,9 +2,9 @@
 //!
 //! The rules: `sha256`, `world`, `steps`, `sound`, `quiet`, `schedule`, `listing`.
 //! The claims about a whole run (demand 3): `claims`.
-//! The comparison with another program: `random`, `draft`, `damage` and `generate` make schedules, `asked` says which of
-//! them are taken, `program` runs the other program, `compare` says where the two differ, `shrink` (with `intent`) makes
-//! a differing schedule small, `report` tells of it.
+//! The comparison with another program: `random`, `draft`, `damage` and `generate` make schedules, `asked` says which
+//! of them are taken, `program` runs the other program, `compare` says where the two differ, `shrink` (with `intent`)
+//! makes a differing schedule small, `report` tells of it.
 //! Timing: `sizes`.
 //! Tools: `options` (command lines), `standard` (input and output), `progress`.
 //! For people: `hex` and `readable`; `draw` (with `story`, `layout` and `svg`) shows a run as a picture.
