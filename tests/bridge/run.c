@@ -38,15 +38,23 @@ static void print_run(const struct staubharfe_ran *ran, const uint8_t *answers)
     printf("numbered %u\n", (unsigned)ran->world.numbered);
 }
 
-/* One byte more than a schedule may have is read, so that 20 can be told. */
+/* One byte more than a schedule may have is read, so that 20 can be told. Ends with 2 where it cannot read or write. */
 int main(void)
 {
     static uint8_t schedule[MOST + 1], answers[MOST];
     size_t length = fread(schedule, 1, sizeof schedule, stdin);
+    if (ferror(stdin)) {
+        perror("cannot read standard input");
+        return 2;
+    }
     struct staubharfe_ran ran = staubharfe_run(schedule, length, answers, sizeof answers);
     if (ran.number != 0)
         printf("refused %u %zu\n", ran.number, ran.offset);
     else
         print_run(&ran, answers);
+    if (fflush(stdout) != 0 || ferror(stdout)) {
+        perror("cannot write standard output");
+        return 2;
+    }
     return 0;
 }

@@ -1,14 +1,11 @@
 //! Compares this implementation with another program and with itself, and counts what the schedules reached.
 
 use std::collections::BTreeSet;
-use std::path::Path;
-use std::{fs, process};
 
 use crate::claims::History;
 use crate::listing;
-use crate::program;
+use crate::program::Program;
 use crate::quiet;
-use crate::readable;
 use crate::schedule::{self, Ran, Refusal, Refused};
 use crate::sound;
 use crate::steps::{self, Answer, Mistake};
@@ -21,13 +18,13 @@ const SOUND_STEPS: usize = 500;
 pub type Own = Result<(Ran, Vec<u8>), Refused>;
 
 /// Runs a schedule here and there, checks all that is promised, and gives back the own run, or the first difference.
-pub fn check(program: &Path, schedule: &[u8]) -> Result<Own, String> {
+pub fn check(program: &Program, schedule: &[u8]) -> Result<Own, String> {
     let own = run_own(schedule);
     let text = match &own {
         Ok((ran, answers)) => listing::of_run(ran, answers),
         Err(refused) => listing::of_refused(*refused),
     };
-    same_text(&text, &program::run(program, schedule)?)?;
+    same_text(&text, &program.run(schedule)?)?;
     if let Ok((ran, answers)) = &own {
         walk(schedule, ran, answers)?;
     }
@@ -93,19 +90,6 @@ fn walk(schedule: &[u8], ran: &Ran, answers: &[u8]) -> Result<(), String> {
 /// Says which clause of soundness is broken about a step.
 fn unsound(world: &World, k: usize) -> String {
     format!("step {k}: {} does not hold", sound::broken_clause(world).unwrap_or("a single step's reading"))
-}
-
-/// Shows and saves a small schedule on which a comparison fails, says how it fails, and leaves.
-pub fn report(comparison: &str, file: &str, schedule: &[u8], differs: Result<(), String>) -> ! {
-    print!("{}", readable::of_schedule(schedule));
-    if let Err(why) = differs {
-        println!("{why}");
-    }
-    match fs::write(file, schedule) {
-        Ok(()) => println!("{comparison}: a difference, saved in {file} ({} bytes)", schedule.len()),
-        Err(why) => println!("{comparison}: a difference, which cannot be saved in {file}: {why}"),
-    }
-    process::exit(1);
 }
 
 /// What all schedules together reached.

@@ -1,7 +1,9 @@
-//! Command line options of the form `--name value`, and words.
+//! Command line options of the form `--name value`, and words; and a command line to give again.
 
-use std::process;
+use std::env;
 use std::str::FromStr;
+
+use crate::standard::{self, CANNOT};
 
 /// The words and options of a command line that are not taken yet.
 pub struct Options {
@@ -12,7 +14,7 @@ pub struct Options {
 impl Options {
     /// The command line of this process, and how it should look.
     pub fn of_process(usage: &'static str) -> Options {
-        Options { usage, left: std::env::args().skip(1).collect() }
+        Options { usage, left: env::args().skip(1).collect() }
     }
 
     /// Takes a flag that has no value.
@@ -52,7 +54,36 @@ impl Options {
 
     /// Says what is wrong and leaves.
     pub fn fail(&self, why: &str) -> ! {
-        eprintln!("{why}\nusage: {}", self.usage);
-        process::exit(2);
+        standard::leave(CANNOT, &format!("{why}\nusage: {}", self.usage));
+    }
+}
+
+/// A line for a shell that starts this program as it was started, with these words.
+pub fn command(words: &[String]) -> String {
+    let started = env::args().next().unwrap_or_default();
+    let quoted: Vec<String> = [started].iter().chain(words).map(|word| quoted(word)).collect();
+    quoted.join(" ")
+}
+
+/// A word as a shell reads it.
+fn quoted(word: &str) -> String {
+    let is_plain = |c: char| c.is_ascii_alphanumeric() || "-_./=+,:@%".contains(c);
+    if !word.is_empty() && word.chars().all(is_plain) {
+        word.to_string()
+    } else {
+        format!("'{}'", word.replace('\'', r"'\''"))
+    }
+}
+
+#[cfg(test)]
+mod tests {
+    use super::*;
+
+    #[test]
+    fn a_shell_reads_the_words_back() {
+        assert_eq!(quoted("target/bin/rehearse"), "target/bin/rehearse");
+        assert_eq!(quoted("a b"), "'a b'");
+        assert_eq!(quoted("it's $5"), r"'it'\''s $5'");
+        assert_eq!(quoted(""), "''");
     }
 }

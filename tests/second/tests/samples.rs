@@ -1,45 +1,37 @@
-//! Runs every sample schedule in the folder that the variable SAMPLES names.
+//! Every sample schedule has its listing. A sample or a folder that is not there is an error.
 
 use std::fs;
-use std::io::{self, Write};
 use std::path::{Path, PathBuf};
 
 use second::compare::same_text;
 use second::listing;
 use second::steps::Mistake;
 
-/// Every schedule in a folder and its folders.
-fn schedules(folder: &Path) -> Vec<PathBuf> {
-    let mut found = Vec::new();
-    for item in fs::read_dir(folder).expect("the folder can be read") {
-        let path = item.expect("the item can be read").path();
-        if path.is_dir() {
-            found.extend(schedules(&path));
-        } else if path.extension().is_some_and(|extension| extension == "bin") {
-            found.push(path);
-        }
-    }
-    found
+/// The folders of samples in tests/samples, and how many schedules each has; tests/samples/README.md has the same.
+const FOLDERS: [(&str, usize); 3] = [("", 1), ("attacks", 17), ("mixed", 48)];
+
+/// The files of a folder of samples that end in a way.
+fn files(folder: &str, ending: &str) -> Vec<PathBuf> {
+    let path = Path::new(env!("CARGO_MANIFEST_DIR")).join("../samples").join(folder);
+    let items = fs::read_dir(&path).unwrap_or_else(|why| panic!("tests/samples/{folder} cannot be read: {why}"));
+    let paths = items.map(|item| item.expect("an item of the folder can be read").path());
+    paths.filter(|path| path.extension().is_some_and(|extension| extension == ending)).collect()
 }
 
-/// Says a thing past the test harness, which hides what passing tests print.
-fn say(line: &str) {
-    writeln!(io::stderr(), "{line}").expect("standard error takes a line");
+#[test]
+fn every_sample_is_there() {
+    for (folder, many) in FOLDERS {
+        let found = ["bin", "out"].map(|ending| files(folder, ending).len());
+        assert_eq!(found, [many; 2], "schedules and listings in tests/samples/{folder}");
+    }
 }
 
 #[test]
 fn samples_have_their_listings() {
-    let Some(folder) = std::env::var_os("SAMPLES").map(PathBuf::from).filter(|folder| folder.is_dir()) else {
-        say("NO SAMPLES WERE RUN: the variable SAMPLES names no folder");
-        return;
-    };
-    let schedules = schedules(&folder);
-    assert!(!schedules.is_empty(), "the samples folder has no schedule");
-    for path in &schedules {
-        let schedule = fs::read(path).expect("the schedule can be read");
+    for path in FOLDERS.iter().flat_map(|(folder, _)| files(folder, "bin")) {
+        let schedule = fs::read(&path).expect("the schedule can be read");
         let expected = fs::read(path.with_extension("out")).expect("the listing can be read");
         let text = listing::of_schedule(&schedule, Mistake::None);
         assert_eq!(same_text(&text, &expected), Ok(()), "{}", path.display());
     }
-    say(&format!("{} samples match", schedules.len()));
 }

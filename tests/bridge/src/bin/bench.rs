@@ -1,16 +1,15 @@
 //! Prints what the proved program and the second implementation cost, side by side in one run. It tests nothing.
 
 use std::hint::black_box;
-use std::path::Path;
-use std::process;
 use std::time::{Duration, Instant};
 
 use bridge::world::DIGEST;
 use second::options::Options;
-use second::program;
+use second::program::{Program, PATIENCE};
 use second::schedule::{self, Steps};
 use second::sha256::short_digest;
 use second::sizes::{self, Timed};
+use second::standard::{leave, say};
 
 const USAGE: &str =
     "bench PROGRAM OTHER, two programs that print listings: the proved one and the second implementation";
@@ -28,9 +27,9 @@ const SINGLE_STEPS: usize = 1_000;
 /// One line for each thing that is timed.
 fn main() {
     let mut options = Options::of_process(USAGE);
-    let programs = [options.word("PROGRAM"), options.word("OTHER")];
+    let programs = ["PROGRAM", "OTHER"].map(|name| Program::new(options.word(name), PATIENCE));
     options.end();
-    println!("{:<44} {:>12} {:>12} {:>8}", "", "proved", "Rust", "ratio");
+    say(format!("{:<44} {:>12} {:>12} {:>8}", "", "proved", "Rust", "ratio"));
     [30, 55].iter().for_each(|length| digests(*length));
     let schedules = sizes::three_sizes(SEED);
     let [.., long] = &schedules;
@@ -81,12 +80,11 @@ fn single_steps(bytes: &[u8]) {
 }
 
 /// Milliseconds of two programs from start to end: reading, running and printing.
-fn whole_programs(programs: &[String; 2], schedule: &Timed) {
+fn whole_programs(programs: &[Program; 2], schedule: &Timed) {
     let [proved, rust] = programs.each_ref().map(|program| {
         move || {
-            if let Err(why) = program::run(Path::new(program), &schedule.bytes) {
-                eprintln!("bench: {why}");
-                process::exit(1);
+            if let Err(why) = program.run(&schedule.bytes) {
+                leave(1, &format!("bench: {why}"));
             }
         }
     });
@@ -125,5 +123,5 @@ fn print_rates(what: &str, many: usize, times: [Duration; 2]) {
 /// A line with both figures, and the proved program's time in times of Rust's.
 fn print_line(what: &str, [proved, rust]: [String; 2], times: [Duration; 2]) {
     let ratio = times[0].as_secs_f64() / times[1].as_secs_f64();
-    println!("{what:<44} {proved:>12} {rust:>12} {ratio:>8.2}");
+    say(format!("{what:<44} {proved:>12} {rust:>12} {ratio:>8.2}"));
 }

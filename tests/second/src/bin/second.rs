@@ -1,20 +1,17 @@
 //! Reads a schedule from standard input and prints its listing.
 
-use std::io::{self, Read, Write};
-
-use second::listing;
 use second::options::Options;
 use second::schedule::MAX_BYTES;
 use second::steps::Mistake;
+use second::{listing, standard};
 
 const USAGE: &str = "second [--mistake NAME] <SCHEDULE";
 
 /// Reads no further than needed to tell that a schedule is too long.
-fn main() -> io::Result<()> {
+fn main() {
     let mistake = mistake_asked();
-    let mut schedule = Vec::new();
-    io::stdin().take(MAX_BYTES as u64 + 1).read_to_end(&mut schedule)?;
-    io::stdout().write_all(listing::of_schedule(&schedule, mistake).as_bytes())
+    let schedule = standard::input(MAX_BYTES + 1);
+    standard::print(listing::of_schedule(&schedule, mistake).as_bytes());
 }
 
 /// The mistake to plant, by its name.
