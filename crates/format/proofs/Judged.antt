@@ -19,7 +19,7 @@ use Rattle.format.specs.declared.verdict.Verdict.{Verdict}
 use Rattle.format.specs.declared.verdict.Verdict.the-variants.{Accepted, Refused}
 use Rattle.format.specs.Fields.{byteAt}
 use Rattle.format.specs.Records.{startBody, startBytes, formOf, readAt, Asked, askedBy, askedAfter, asked}
-use Rattle.format.specs.Judging.{scheduleMost, ended, scanBy, scanFrom, scanned, startRoster, startJudged, recordsJudged, judged, Accepts, AcceptedMeans, RefusedThere, RecordsFirst}
+use Rattle.format.specs.Judging.{scheduleMost, scanBy, scanFrom, scanned, startRoster, startJudged, recordsJudged, judged, Accepts, AcceptedMeans, RefusedThere, RecordsFirst}
 use Rattle.format.proofs.Forms.{start-body}
 use Rattle.format.proofs.Reader.{known}
 
@@ -37,11 +37,6 @@ must-accepts true why at n v e = (refl, e)
 must-accepts false why at n v e = never e
 
 -- a scan that accepts has counted the records
-count-end : (x : Read) (at k n : ℕ) → ended x at k ≡ Accepted n → n ≡ k
-count-end (read.Record j b next) at k n e = cc
-count-end (read.Refused why) at k n e = never e
-count-end read.End at k n e = cc
-
 count-by : (s : List ℕ) (x : Read) (at k n : ℕ) (more : ℕ → Verdict) (rest : ℕ → List Asked) → ((next : ℕ) → more next ≡ Accepted n → n ≡ k + 1 + length (rest next))
     → scanBy more x at k ≡ Accepted n → n ≡ k + length (askedBy rest s x)
 unfolding scanBy askedBy
@@ -51,7 +46,7 @@ count-by s read.End at k n more rest h e = let z : k ≡ n = cc in omega arith
 
 count-from : (s : List ℕ) (fuel at k n : ℕ) → scanFrom s fuel at k ≡ Accepted n → n ≡ k + length (askedAfter s fuel at)
 unfolding scanFrom askedAfter
-count-from s zero at k n e = count-end (readAt s at) at k n e ∙ omega arith
+count-from s zero at k n e = let z : k ≡ n = cc in omega arith
 count-from s (suc fuel) at k n e = count-by s (readAt s at) at k n _ _ (λ next d. count-from s fuel next (k + 1) n d) e
 
 scan-count : (s : List ℕ) (n : ℕ) → scanned s startBytes ≡ Accepted n → n ≡ length (asked s)
@@ -80,11 +75,6 @@ accepted-means s n e =
     record { short = leb-true _ _ (m .0); good = f .0; count = scan-count s n (f .1) }
 
 -- a refused record
-there-end : (x : Read) (at k : ℕ) (why : Refusal) (to : ℕ) → ended x at k ≡ Refused why to → (at ≡ to) × (x ≡ read.Refused why)
-there-end (read.Record j b next) at k why to e = never-back e
-there-end (read.Refused y) at k why to e = (cc, cc)
-there-end read.End at k why to e = never-back e
-
 there-by : (s : List ℕ) (x : Read) (at k to : ℕ) (why : Refusal) (more : ℕ → Verdict) → readAt s at ≡ x
     → ((next : ℕ) → more next ≡ Refused why to → readAt s to ≡ read.Refused why) → scanBy more x at k ≡ Refused why to → readAt s to ≡ read.Refused why
 unfolding scanBy
@@ -94,7 +84,7 @@ there-by s read.End at k to why more q h e = never-back e
 
 there-from : (s : List ℕ) (fuel at k to : ℕ) (why : Refusal) → scanFrom s fuel at k ≡ Refused why to → readAt s to ≡ read.Refused why
 unfolding scanFrom
-there-from s zero at k to why e = let m = there-end (readAt s at) at k why to e in rw (← m .0) (m .1)
+there-from s zero at k to why e = never-back e
 there-from s (suc fuel) at k to why e = there-by s (readAt s at) at k to why _ refl (λ next d. there-from s fuel next (k + 1) to why d) e
 
 pub refused-there : RefusedThere

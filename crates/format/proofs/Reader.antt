@@ -16,6 +16,7 @@ use Rattle.format.proofs.kinds.Form as form-of
 use Rattle.format.specs.declared.kinds.Kind.{Kind}
 use Rattle.format.specs.declared.kinds.Form.{Form}
 use Rattle.format.specs.declared.kinds.Form.the-variants.{Start, Step, Bad}
+use Rattle.format.specs.declared.refusal.Refusal.{Refusal}
 use Rattle.format.specs.declared.refusal.Refusal.the-variants.{Cut, NoStart}
 use Rattle.format.specs.declared.reading.Read.{Read}
 use Rattle.format.specs.declared.reading.Read.the-variants.{Record, Refused, End}
@@ -24,7 +25,7 @@ use Rattle.format.specs.declared.verdict.Verdict.the-variants as verdict
 use Rattle.format.specs.Fields.{byteAt}
 use Rattle.format.specs.Records.{formOf, readBy, readAt}
 use Rattle.format.proofs.Forms.{step-body}
-use Rattle.format.specs.Judging.{ended, scanBy, scanFrom, scanned, recordsJudged}
+use Rattle.format.specs.Judging.{scanBy, scanFrom, scanned, recordsJudged}
 
 -- where a whole record lies: it has two bytes at least, its kind and a body of one or more
 pub record Known (s : List ℕ) (at b next : ℕ) : Type 0 where
@@ -80,32 +81,50 @@ scan-on s from at k b next j q i =
     let f : length s - k ≡ suc (length s - (k + 1)) = omega arith in
     record { near = omega arith; same = i .same ∙ rw f (scan-more s (length s - (k + 1)) at k b next j q) }
 
+-- a scan ends where nothing stands, and where what stands is refused
+ends-none : (s : List ℕ) (fuel at k : ℕ) → readAt s at ≡ End → scanFrom s fuel at k ≡ verdict.Accepted k
+unfolding scanFrom scanBy
+ends-none s zero at k q = refl
+ends-none s (suc fuel) at k q = rw q
+
+pub scan-accepts : (s : List ℕ) (from at k : ℕ) → Scanning s from at k → readAt s at ≡ End → verdict.Accepted k ≡ scanned s from
+scan-accepts s from at k i q = sym (i .same ∙ ends-none s (length s - k) at k q)
+
+in-by : (s : List ℕ) (at : ℕ) (why : Refusal) (t : Bool) → t ≡ leb (length s) at → cond t End (readBy s at (formOf (byteAt s at))) ≡ Refused why → at < length s
+in-by s at why true h r = let z : _≡_ {A = ℕ} 0 1 = cc in omega arith
+in-by s at why false h r = leb-false _ _ (sym h)
+
+refused-in : (s : List ℕ) (at : ℕ) (why : Refusal) → readAt s at ≡ Refused why → at < length s
+unfolding readAt
+refused-in s at why r = in-by s at why (leb (length s) at) refl r
+
+scan-stops : (s : List ℕ) (fuel at k : ℕ) (why : Refusal) → readAt s at ≡ Refused why → scanFrom s (suc fuel) at k ≡ verdict.Refused why at
+unfolding scanFrom scanBy
+scan-stops s fuel at k why q = rw q
+
+pub scan-refuses : (s : List ℕ) (from at k : ℕ) (why : Refusal) → Scanning s from at k → readAt s at ≡ Refused why → verdict.Refused why at ≡ scanned s from
+scan-refuses s from at k why i q =
+    let n : k ≤ at = i .near in
+    let f : length s - k ≡ suc (length s - (k + 1)) = omega (arith, refused-in s at why q) in
+    sym (i .same ∙ rw f (scan-stops s (length s - (k + 1)) at k why q))
+
 -- a record, or none
 abbrev pub isRecord : Read → ℕ
 isRecord (Record j b next) = 1
 isRecord (Refused why) = 0
 isRecord End = 0
 
-stop-by : (x : Read) (more : ℕ → Verdict) (at k : ℕ) → isRecord x ≡ 0 → scanBy more x at k ≡ ended x at k
-unfolding scanBy
-stop-by (Record j b next) more at k h = absurd (omega arith)
-stop-by (Refused why) more at k h = refl
-stop-by End more at k h = refl
-
-scan-stop : (s : List ℕ) (fuel at k : ℕ) → isRecord (readAt s at) ≡ 0 → scanFrom s fuel at k ≡ ended (readAt s at) at k
-unfolding scanFrom
-scan-stop s zero at k h = refl
-scan-stop s (suc fuel) at k h = stop-by (readAt s at) _ at k h
-
--- a scan ends where no record stands
-pub scan-ends : (s : List ℕ) (from at k : ℕ) → Scanning s from at k → isRecord (readAt s at) ≡ 0 → ended (readAt s at) at k ≡ scanned s from
-scan-ends s from at k i h = sym (i .same ∙ scan-stop s (length s - k) at k h)
-
 -- a tag that is not a record's
 pub no-record : (x : Read) → OneOf (1 ∷ 2 ∷ []) (tagOf the-type x) → isRecord x ≡ 0
 no-record (Record j b next) h = ⊎-elim (λ w. omega arith) (λ w. omega arith) h
 no-record (Refused why) h = refl
 no-record End h = refl
+
+-- nor a refusal's
+pub only-end : (x : Read) → OneOf (1 ∷ 2 ∷ []) (tagOf the-type x) → OneOf (0 ∷ 2 ∷ []) (tagOf the-type x) → x ≡ End
+only-end (Record j b next) g h = absurd (⊎-elim (λ w. omega arith) (λ w. omega arith) g)
+only-end (Refused why) g h = absurd (⊎-elim (λ w. omega arith) (λ w. omega arith) h)
+only-end End g h = refl
 
 -- nor a start's
 pub no-start : (s : List ℕ) (f : Form) → OneOf (1 ∷ 2 ∷ []) (tagOf form-of.the-type f) → verdict.Refused NoStart 0 ≡ recordsJudged s f

@@ -32,19 +32,15 @@ refusalCode BadWorld = 27
 abbrev pub scheduleMost : ℕ
 scheduleMost = 32768
 
--- "For 22 to 24 the record with the lowest offset decides": behind k records, at an offset where no record stands
-abbrev pub ended : Read → ℕ → ℕ → Verdict
-ended (read.Refused why) at k = Refused why at
-ended (read.Record kind b next) at k = Accepted k
-ended read.End at k = Accepted k
-
+-- 22 to 24: the first record that is refused decides, with its offset. After k records, by what stands at an offset; `fuel` is at
+-- least the number of bytes that are left
 unfoldable pub scanBy : (ℕ → Verdict) → Read → ℕ → ℕ → Verdict
 scanBy more (read.Record kind b next) at k = more next
 scanBy more (read.Refused why) at k = Refused why at
 scanBy more read.End at k = Accepted k
 
 unfoldable pub scanFrom : List ℕ → ℕ → ℕ → ℕ → Verdict
-scanFrom s zero at k = ended (readAt s at) at k
+scanFrom s zero at k = Accepted k
 scanFrom s (suc fuel) at k = scanBy (λ (next : ℕ). scanFrom s fuel next (k + 1)) (readAt s at) at k
 
 unfoldable pub scanned : List ℕ → ℕ → Verdict

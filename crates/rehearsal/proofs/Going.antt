@@ -35,7 +35,7 @@ use Rattle.format.specs.declared.verdict.Verdict.{Verdict}
 use Rattle.format.specs.declared.verdict.Verdict.the-variants.{Accepted, Refused}
 use Rattle.format.specs.Fields.{byteAt, fourAt, bytesAt}
 use Rattle.format.specs.Records.{formOf, readAt, Asked, askedFrom, askedBy, askedAfter, asked}
-use Rattle.format.specs.Judging.{ended, scanBy, scanFrom, scanned, scheduleMost, startJudged, recordsJudged, judged}
+use Rattle.format.specs.Judging.{judged}
 use Rattle.format.proofs.Reader.{Known, known, isRecord}
 use Rattle.protocol.specs.declared.boxes.Touch.{Touch}
 use Rattle.protocol.specs.Steps.{ends, withRequests, putBack, boxesOf, stepOf, worldAfter, answersOf}

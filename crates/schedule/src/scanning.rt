@@ -2,7 +2,7 @@
 ghost use mathlib.Core.Path.{_≡_};
 ghost use Prim.Native.Nat.{_≤_};
 ghost use lib.ListN.{length};
-ghost use Rattle.format.specs.Judging.{scanned, ended, judged};
+ghost use Rattle.format.specs.Judging.{scanned, judged};
 use crate::fields::byte_at;
 use crate::kinds::form_of;
 use crate::reading::read_at;
@@ -12,21 +12,6 @@ use format::Refusal;
 use format::Schedule;
 use format::Verdict;
 use world::Roster;
-
-// What it means that no record stands at an offset behind k records.
-fn end(read: Read, at: usize, k: usize) -> Verdict
-    ensures { λ r. ⌜ r ≡ ended read at k ⌝ }
-{
-    match read {
-        Read::Refused(why) => Verdict::Refused(why, at),
-        Read::Record {
-            kind: _,
-            start: _,
-            next: _,
-        } => Verdict::Accepted(k),
-        Read::End => Verdict::Accepted(k),
-    }
-}
 
 // The records from an offset on, up to the first that is refused.
 fn scan(s: &[u8], from: usize) -> Verdict
@@ -43,7 +28,10 @@ fn scan(s: &[u8], from: usize) -> Verdict
             next,
         } = read
         else {
-            return end(read, at, k);
+            let Read::Refused(why) = read else {
+                return Verdict::Accepted(k);
+            };
+            return Verdict::Refused(why, at);
         };
         at = next;
         k += 1;

@@ -1,12 +1,11 @@
 use Rattle.format.specs.declared.reading.Read.{Read}
-use Rattle.format.specs.Judging.{ended}
-use Rattle.format.proofs.Reader.{no-record}
+
 use borrow.Author.Needs.{needs}
 use mathlib.Core.Path.{_≡_, sym, ap, _∙_}
 use Prim.Native.Nat.{_+_, _-_}
 use native.Mathlib.Omega.{arith}
 use lib.ListN.{length}
-use Rattle.format.proofs.Reader.{Scanning, Known, known, scan-start, scan-on, scan-ends, isRecord}
+use Rattle.format.proofs.Reader.{Scanning, Known, known, scan-start, scan-on, scan-accepts, scan-refuses, only-end}
 use Rattle.schedule.proofs.scanning.scan.Statement.{statement}
 use Rattle.schedule.proofs.scanning.scan.Tie as tie
 
@@ -25,13 +24,18 @@ read-at-requires c κs = search needs
 enum-known-read : tie.Need-enum-known-read Inv-loop μ-loop
 enum-known-read c = search needs
 
-end-requires : tie.Need-end-requires Inv-loop μ-loop
-end-requires c κs = search needs
+enum-known-read-2 : tie.Need-enum-known-read-2 Inv-loop μ-loop
+enum-known-read-2 c = search needs
 
 returns : tie.Need-returns Inv-loop μ-loop
 returns c =
-    let h = rw (c .before .before .read-at .ensures) at (no-record (c .before .before .read-at .result) (c .before .match .keys2)) in
-    c .end .ensures ∙ ap (λ (x : Read). ended x (c .before .before .before .loop .at) (c .before .before .before .loop .k)) (c .before .before .read-at .ensures) ∙ scan-ends _ _ _ _ (c .before .before .before .loop .inv) h
+    let r = c .before .before .read-at in
+    scan-accepts _ _ _ _ (c .before .before .before .loop .inv) (sym (r .ensures) ∙ only-end (r .result) (c .before .match .keys2) (c .match2 .keys2))
+
+returns-2 : tie.Need-returns-2 Inv-loop μ-loop
+returns-2 c =
+    let g = c .before .before .before .before in
+    scan-refuses _ _ _ _ _ (g .before .loop .inv) (sym (g .read-at .ensures) ∙ c .before .read2 .given .1)
 
 add-k : tie.Need-add-k Inv-loop μ-loop
 add-k c = omega (arith, c .before .before .before .before .loop .inv .near, known _ _ _ _ _ (sym (c .before .before .before .read-at .ensures) ∙ c .before .read .given .1))
@@ -51,8 +55,9 @@ scan-spec =
     loop-holds
     read-at-requires
     enum-known-read
-    end-requires
+    enum-known-read-2
     returns
+    returns-2
     add-k
     loop-less
     loop-again)
