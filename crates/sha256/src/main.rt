@@ -1,16 +1,23 @@
-// Prints the SHA-256 of standard input, of at most 55 bytes; more is refused, by number and place.
+// Prints the SHA-256 of standard input, of at most 55 bytes; more is refused, by code and place.
 use fips180::Digest;
 use hex::Line;
 
 fn main() {
+    if console::has_arguments(b"sha256") {
+        return;
+    }
     let mut message = [0u8; Digest::MOST + 1];
+    console::begin();
     let n = io::read_full(libc::STDIN_FILENO, &mut message);
+    if console::read_failed() {
+        return;
+    }
     let d = digest::sha256(&message[..n]);
     if d.code == Digest::LONG {
-        io::write_all(libc::STDOUT_FILENO, b"refused 28 0\n");
+        console::write(b"refused 28 0\n");
         return;
     }
     let digest = d.bytes;
     let text = Line::of(digest).text;
-    io::write_all(libc::STDOUT_FILENO, &text);
+    console::write(&text);
 }

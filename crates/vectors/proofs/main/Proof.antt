@@ -1,8 +1,9 @@
-use borrow.Author.Needs.{needs}
-use mathlib.Core.Path.{_≡_}
-use Prim.Native.Nat.{_-_, _≤_}
-use native.Mathlib.Omega.{arith}
+-- Every index of the program is in range, and its loop ends.
 use lib.ListN.{length, length-set, length-take}
+use native.Mathlib.Omega.{arith}
+use Prim.Native.Nat.{_-_, _≤_}
+use mathlib.Core.Path.{_≡_}
+use borrow.Author.Needs.{needs}
 use Rattle.vectors.proofs.main.Statement.{statement}
 use Rattle.vectors.proofs.main.Tie as tie
 
@@ -12,11 +13,29 @@ Inv-loop lines n message₀ digits₀ i₀ message digits i = (i ≤ n) × ((dig
 abbrev μ-loop : tie.MeasureT-loop
 μ-loop lines n message₀ digits₀ i₀ message digits i = n - i
 
+slice-aggregate-has-arguments : tie.Need-slice-aggregate-has-arguments Inv-loop μ-loop
+slice-aggregate-has-arguments c = search needs
+
+has-arguments-requires : tie.Need-has-arguments-requires Inv-loop μ-loop
+has-arguments-requires c κs = search needs
+
+returns : tie.Need-returns Inv-loop μ-loop
+returns c = search needs
+
+begin-requires : tie.Need-begin-requires Inv-loop μ-loop
+begin-requires c κs = search needs
+
 slice-aggregate-read-full : tie.Need-slice-aggregate-read-full Inv-loop μ-loop
 slice-aggregate-read-full c = search needs
 
 read-full-requires : tie.Need-read-full-requires Inv-loop μ-loop
 read-full-requires c κs = search needs
+
+read-failed-requires : tie.Need-read-failed-requires Inv-loop μ-loop
+read-failed-requires c κs = search needs
+
+returns-2 : tie.Need-returns-2 Inv-loop μ-loop
+returns-2 c = search needs
 
 loop-holds : tie.Need-loop-holds Inv-loop μ-loop
 loop-holds c = search needs
@@ -72,8 +91,8 @@ loop-less-3 c = search needs
 loop-again-3 : tie.Need-loop-again-3 Inv-loop μ-loop
 loop-again-3 c = search needs
 
-returns : tie.Need-returns Inv-loop μ-loop
-returns c = search needs
+returns-3 : tie.Need-returns-3 Inv-loop μ-loop
+returns-3 c = search needs
 
 pub main-spec : {M : Type 1} → statement M
 main-spec =
@@ -81,8 +100,14 @@ main-spec =
     (tie.spec
     Inv-loop
     μ-loop
+    slice-aggregate-has-arguments
+    has-arguments-requires
+    returns
+    begin-requires
     slice-aggregate-read-full
     read-full-requires
+    read-failed-requires
+    returns-2
     loop-holds
     array-read-c
     add-i
@@ -101,4 +126,4 @@ main-spec =
     loop-again-2
     loop-less-3
     loop-again-3
-    returns)
+    returns-3)

@@ -1,5 +1,4 @@
 use Rattle.format.specs.declared.reading.Read.{Read}
-
 use borrow.Author.Needs.{needs}
 use mathlib.Core.Path.{_≡_, sym, ap, _∙_}
 use Prim.Native.Nat.{_+_, _-_}
