@@ -1,2 +1,4 @@
 pub mod Naming
+pub mod Order
+pub mod Stillness
 pub mod Unique

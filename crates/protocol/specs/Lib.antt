@@ -1,5 +1,6 @@
 pub mod Answers
 pub mod Rules
+pub mod Order
 pub mod Steps
 pub mod Zeros
 pub mod Names

@@ -1,7 +1,8 @@
 -- Document 01, "Quiet": "no outgoing place holds a packet for a correct server, and no correct server has (even where its step would answer
 -- 9) a stage-one entry whose execution exists, a stage-two entry whose execution is numbered, or a stage-three entry with its next number."
-use Prim.Native.Nat.{ℕ}
-use mathlib.Core.Bool.{Bool, false, not, _&&_, _||_}
+use Prim.Native.Nat.{ℕ, _<_}
+use mathlib.Core.Path.{_≡_}
+use mathlib.Core.Bool.{Bool, true, false, not, _&&_, _||_}
 use mathlib.Core.List.{List}
 use lib.Dec.{eqb}
 use Rattle.search.specs.declared.Found.{Found}
@@ -49,3 +50,10 @@ serverQuiet w s =
 
 unfoldable pub quiet : World → Bool
 quiet w = every (λ (s : ℕ). serverQuiet w s) servers
+
+-- a promise (proofs/Stillness): no world is quiet while a correct server could go on, even where its step answers 9
+abbrev pub StirringStays : Type 0
+StirringStays =
+    (w : World) (s k : ℕ) (e : Entry) → s < servers → correct (w .roster) s ≡ true → k < holdPlaces
+    → entryAt (holdOf w s) k ≡ e → stirs (tableOf (w .executions) (e .sender)) (nextOf (deliveredOf w s)) e ≡ true
+    → quiet w ≡ false

@@ -1,3 +1,1 @@
-pub mod Typed
-pub mod Filled
 pub mod Unique

@@ -1,10 +1,10 @@
 // The boxes of the servers in a sound world.
 ghost use mathlib.Core.Path.{_≡_};
 ghost use Rattle.protocol.specs.Sound.{serversSound};
-use crate::entries::hold_sound;
-use crate::executions::executions_sound;
-use crate::items::delivered_sound;
-use crate::packets::outgoing_sound;
+use sound_boxes::delivered_sound;
+use sound_boxes::hold_sound;
+use sound_boxes::outgoing_sound;
+use sound_executions::executions_sound;
 use world::Roster;
 use world::World;
 
