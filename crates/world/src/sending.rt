@@ -1,4 +1,4 @@
-// What a packet tells, an entry is of and a delivered item names: the sender and id of an execution, and a request's slot.
+// What a packet tells, an entry is of and a delivered item is: the sender and id of an execution, and a slot.
 ghost use mathlib.Core.Path.{_≡_};
 ghost use Rattle.world.specs.Sending.{noSending};
 
