@@ -8,9 +8,9 @@ use lib.ListN.{length, getD, take}
 use lib.Seq.{length-take-le, getD-take, take-all, take-append-seam}
 use Rattle.search.specs.declared.Found.the-variants.{At}
 use Rattle.world.specs.declared.World.{World}
-use Rattle.world.specs.declared.delivered.Item.{Item}
+use Rattle.world.specs.declared.sending.Sending.{Sending}
 use Rattle.world.specs.Executions.{executionAt, executionOf}
-use Rattle.world.specs.Delivered.{unusedItem}
+use Rattle.world.specs.Sending.{noSending}
 use Rattle.world.specs.Boxes.{executionsOf}
 use Rattle.protocol.specs.Quiet.{quiet}
 use Rattle.world.proofs.Seats.{seat-own}
@@ -22,7 +22,7 @@ use Rattle.agreement.proofs.Members.{Good, member-of, member-belongs}
 use Rattle.agreement.proofs.Quietly.{all-delivered}
 
 -- a sending has one number
-numbered-one : {w : World} {a b : Item} {n m : ℕ} → Numbered w a n → Numbered w b m → a .sender ≡ b .sender → a .id ≡ b .id → n ≡ m
+numbered-one : {w : World} {a b : Sending} {n m : ℕ} → Numbered w a n → Numbered w b m → a .sender ≡ b .sender → a .id ≡ b .id → n ≡ m
 numbered-one {w} {a} {b} p q s i =
     let same : executionOf (executionsOf w (a .sender)) (a .id) ≡ executionOf (executionsOf w (b .sender)) (b .id) =
     ap (λ (x : ℕ). executionOf (executionsOf w x) (a .id)) s ∙ ap (λ (y : ℕ). executionOf (executionsOf w (b .sender)) y) i
@@ -35,9 +35,9 @@ numbered-one {w} {a} {b} p q s i =
     ∙ q .number
 
 -- a beginning that is as long as the whole
-begins-whole : {l all : List Item} → Begins l all → length all ≤ length l → l ≡ all
+begins-whole : {l all : List Sending} → Begins l all → length all ≤ length l → l ≡ all
 begins-whole {l} {all} b h =
-    sym (take-append-seam l (b .rest)) ∙ ap (λ (x : List Item). take (length l) x) (b .whole) ∙ take-all (length l) all h
+    sym (take-append-seam l (b .rest)) ∙ ap (λ (x : List Sending). take (length l) x) (b .whole) ∙ take-all (length l) all h
 
 module _ (w : World) (g : Good w) where
   belongs-numbered : {s i sl n : ℕ} → Belongs (w .requests) (w .executions) s i sl n → Numbered w (record { id = i; sender = s; slot = sl }) n
@@ -55,7 +55,7 @@ module _ (w : World) (g : Good w) where
   agree-numbers k h =
       let m = member-of w g (k + 1) (omega arith) (omega arith) in
       let b = member-belongs w (omega arith) m in
-      subst (λ (i : Item). Numbered w i (k + 1)) (sym (sendings-at w (w .numbered) k h ∙ sending-of w (g .facts) b)) (belongs-numbered b)
+      subst (λ (i : Sending). Numbered w i (k + 1)) (sym (sendings-at w (w .numbered) k h ∙ sending-of w (g .facts) b)) (belongs-numbered b)
 
   module _ (p : ℕ) (c : Correct (w .roster) p) where
     -- what the server delivered, in number and one by one
@@ -68,11 +68,11 @@ module _ (w : World) (g : Good w) where
         let top = g .facts .numbers .most in
         rw (seat-own p l) (length-take-le (d .count) (d .items) (omega arith))
 
-    done-at : (k : ℕ) → k < doneAt (w .delivered) p .count → getD (deliveredBy w p) k unusedItem ≡ sendingOf w (k + 1)
+    done-at : (k : ℕ) → k < doneAt (w .delivered) p .count → getD (deliveredBy w p) k noSending ≡ sendingOf w (k + 1)
     done-at k h =
         let d = doneAt (w .delivered) p in
         rw (seat-own p (seated w (g .facts) p c))
-        (getD-take (d .count) (d .items) k unusedItem h ∙ sym (sending-of w (g .facts) (g .inv .prefix p k c h)))
+        (getD-take (d .count) (d .items) k noSending h ∙ sym (sending-of w (g .facts) (g .inv .prefix p k c h)))
 
     agree-beginning : Begins (deliveredBy w p) (sendings w)
     agree-beginning =

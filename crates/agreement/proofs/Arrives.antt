@@ -11,12 +11,13 @@ use borrow.Author.Tests.{eqb-true, eqb-false}
 use Rattle.search.specs.Search.{isFound}
 use Rattle.world.specs.declared.World.{World}
 use Rattle.world.specs.declared.hold.Hold.{Hold}
+use Rattle.world.specs.declared.sending.Sending.{Sending}
 use Rattle.world.specs.declared.outgoing.Packet.{Packet}
 use Rattle.world.specs.Sizes.{servers, outgoingPlaces, holdPlaces}
 use Rattle.world.specs.Roster.{member, faulty}
 use Rattle.world.specs.Outgoing.{freePacket, packetAt, freeOutgoing, packetFreed}
 use Rattle.world.specs.Hold.{entryOf, entryAt, isEntry, holding, freeHold, entryAdded}
-use Rattle.world.specs.Boxes.{seat}
+use Rattle.world.specs.Boxes.{noPackets, noEntries, noItems, seat}
 use Rattle.world.proofs.Seats.{seat-own}
 use Rattle.world.proofs.Seats as seats
 use Rattle.protocol.specs.declared.boxes.Ruling.{Ruling}
@@ -24,7 +25,7 @@ use Rattle.protocol.specs.Rules.{arriveOf, forgePacketOf}
 use Rattle.protocol.specs.Steps.{touch, boxesOf, putBack}
 use Rattle.search.proofs.Booleans.{apart, either, musts, must-cases, test, and2, and4, and-both, not-out, not-no}
 use Rattle.search.proofs.Every.{found-at, found-where}
-use Rattle.kept.proofs.Facts.{noPackets, noEntries, noItems, FactsOf, inside}
+use Rattle.kept.proofs.Facts.{FactsOf, inside}
 use Rattle.kept.proofs.Places.{packet-out}
 use Rattle.agreement.proofs.Invariant.{Correct, holdAt, Holds, Goes, Inv, InvOf}
 use Rattle.agreement.proofs.Keeping.{packets-keep}
@@ -33,19 +34,25 @@ use Rattle.agreement.proofs.Packets.{packetAdded-ways, packetFreed-ways
 use Rattle.agreement.proofs.Moves.{Moves}
 use Rattle.agreement.proofs.Moving.{at, one, named, good, calm, stays}
 
--- an entry of equal sender, id and slot
-held-equal : (h : Hold) (s i sl : ℕ) → holding h s i sl ≡ true → Holds h 1 s i sl
-held-equal h s i sl y =
+-- an entry of an equal sending
+held-equal : (h : Hold) (s : Sending) → holding h s ≡ true → Holds h 1 (s .sender) (s .id) (s .slot)
+held-equal h s y =
     let z = found-where _ y in
     let e = entryAt h (z .0) in
+    let o = e .sending in
     let a =
-    and4 (not (eqb (e .stage) 0)) (eqb (e .sender) s) (eqb (e .id) i) (eqb (e .slot) sl)
-    (found-at (λ (k : ℕ). isEntry (entryAt h k) s i sl) holdPlaces (z .0) (z .1))
+    and4 (not (eqb (e .stage) 0)) (eqb (o .sender) (s .sender)) (eqb (o .id) (s .id)) (eqb (o .slot) (s .slot))
+    (found-at (λ (k : ℕ). isEntry (entryAt h k) s) holdPlaces (z .0) (z .1))
     in
     let d = eqb-false (e .stage) 0 (not-out _ (a .0)) in
     record {
       place = z .0;
-      is = record { up = omega arith; sender = eqb-true (e .sender) s (a .1); id = eqb-true (e .id) i (a .2); slot = eqb-true (e .slot) sl (a .3) };
+      is = record {
+        up = omega arith;
+        sender = eqb-true (o .sender) (s .sender) (a .1);
+        id = eqb-true (o .id) (s .id) (a .2);
+        slot = eqb-true (o .slot) (s .slot) (a .3);
+      };
     }
 
 module _ (w : World) (f : FactsOf w) (v : InvOf w) where
@@ -55,7 +62,7 @@ module _ (w : World) (f : FactsOf w) (v : InvOf w) where
 
     -- the packet goes, where its recipient, if it is correct, holds its sending
     gone : {hs : _} → Inv (w .roster) (w .requests) (w .executions) (w .outgoing) hs (w .delivered)
-        → (Correct (w .roster) (packet .to) → Holds (holdAt hs (packet .to)) 1 (packet .sender) (packet .id) (packet .slot))
+        → (Correct (w .roster) (packet .to) → Holds (holdAt hs (packet .to)) 1 (packet .sending .sender) (packet .sending .id) (packet .sending .slot))
         → Inv (w .roster) (w .requests) (w .executions) (set (w .outgoing) o (packetFreed (getD (w .outgoing) o noPackets) place)) hs (w .delivered)
     gone {hs} u held =
         packets-keep u (one w f) _
@@ -76,17 +83,17 @@ module _ (w : World) (f : FactsOf w) (v : InvOf w) where
         let P : Ruling → Type 0 = λ s. Moves w (putBack w t (s .boxes)) in
         let same = stays w f t v in
         let full : p < length (w .holds) = rw (f .all-entries) to in
-        let e = entryOf 1 (packet .sender) (packet .id) (packet .slot) 0 in
+        let e = entryOf 1 (packet .sending) 0 in
         let size = f .entries p to .size in
         musts P (member (w .roster) o) _ _ same λ _.
         musts P (packet .there) _ _ same λ _.
-        must-cases P (not (faulty (w .roster) p || holding (holdAt (w .holds) p) (packet .sender) (packet .id) (packet .slot))) _ _
-        (λ (no : not (faulty (w .roster) p || holding (holdAt (w .holds) p) (packet .sender) (packet .id) (packet .slot)) ≡ false).
+        must-cases P (not (faulty (w .roster) p || holding (holdAt (w .holds) p) (packet .sending))) _ _
+        (λ (no : not (faulty (w .roster) p || holding (holdAt (w .holds) p) (packet .sending)) ≡ false).
         calm w f t _ _ _
         (rw (set-getD (w .holds) p noEntries, set-getD (w .delivered) o noItems)
         (gone v
         (λ ok.
-        held-equal (holdAt (w .holds) p) (packet .sender) (packet .id) (packet .slot) (rw (good w f p ok) at (not-no (faulty (w .roster) p || holding (holdAt (w .holds) p) (packet .sender) (packet .id) (packet .slot)) no))))))
+        held-equal (holdAt (w .holds) p) (packet .sending) (rw (good w f p ok) at (not-no (faulty (w .roster) p || holding (holdAt (w .holds) p) (packet .sending)) no))))))
         λ _.
         musts P (isFound (freeHold (holdAt (w .holds) p))) _ _ same λ room.
         calm w f t _ _ _
@@ -94,7 +101,7 @@ module _ (w : World) (f : FactsOf w) (v : InvOf w) where
         (gone (entry-kept v (one w f) p full size e (omega arith) room)
         (λ _.
         rw (getD-set-same (w .holds) p (entryAdded (holdAt (w .holds) p) e) noEntries full)
-        (kept-holds (holdAt (w .holds) p) e size room 1 (packet .sender) (packet .id) (packet .slot) (record { up = omega arith; sender = refl; id = refl; slot = refl })))))
+        (kept-holds (holdAt (w .holds) p) e size room 1 (packet .sending .sender) (packet .sending .id) (packet .sending .slot) (record { up = omega arith; sender = refl; id = refl; slot = refl })))))
 
   pub arrive-moves : (origin place : ℕ)
       → (let t = touch origin (packetAt (getD (w .outgoing) (seat origin) noPackets) place .to) origin 0 in

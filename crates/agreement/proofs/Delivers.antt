@@ -16,18 +16,19 @@ use Rattle.world.specs.Sizes.{holdPlaces}
 use Rattle.world.specs.Roster.{member, faulty}
 use Rattle.world.specs.Hold.{entryAt, readyPlace}
 use Rattle.world.specs.Delivered.{nextOf, appended}
+use Rattle.world.specs.Boxes.{noPackets, noItems}
 use Rattle.world.proofs.Seats.{seat-own}
 use Rattle.protocol.specs.declared.boxes.Ruling.{Ruling}
 use Rattle.protocol.specs.Rules.{deliverFound, deliverOf}
 use Rattle.protocol.specs.Steps.{touch, boxesOf, putBack}
 use Rattle.search.proofs.Booleans.{musts, and2, and-both}
 use Rattle.search.proofs.Every.{found-at}
-use Rattle.kept.proofs.Facts.{noPackets, noItems, FactsOf, entry-out}
+use Rattle.kept.proofs.Facts.{FactsOf, entry-out}
 use Rattle.kept.proofs.Delivering.{third-number}
 use Rattle.agreement.proofs.Invariant.{Correct, holdAt, doneAt, InvOf}
 use Rattle.agreement.proofs.Keeping.{belongs-at}
 use Rattle.agreement.proofs.Entries.{entry-freed}
-use Rattle.agreement.proofs.Items.{item-keeps, itemOf}
+use Rattle.agreement.proofs.Items.{item-keeps}
 use Rattle.agreement.proofs.Moves.{Moves}
 use Rattle.agreement.proofs.Moving.{at, one, named, seated, few, keys, calm, stays, in-holds}
 
@@ -58,7 +59,7 @@ module _ (w : World) (f : FactsOf w) (v : InvOf w) where
       let c = belongs-at (keys w f) k b m (o .id) .0 in
       inl (record {
         numbered = rw c (b .some);
-        reached = rw (getD-set-same (w .delivered) p (appended d (itemOf e)) noItems all) (omega arith);
+        reached = rw (getD-set-same (w .delivered) p (appended d (e .sending)) noItems all) (omega arith);
       }))))
   delivered-at p x y ok Nothing q = stays w f (at p p x y) v
 

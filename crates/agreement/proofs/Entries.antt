@@ -16,6 +16,7 @@ use Rattle.world.specs.declared.roster.Roster.{Roster}
 use Rattle.world.specs.declared.request.Requests.{Requests}
 use Rattle.world.specs.declared.execution.Execution.{Execution}
 use Rattle.world.specs.declared.execution.Executions.{Executions}
+use Rattle.world.specs.declared.sending.Sending.{Sending}
 use Rattle.world.specs.declared.outgoing.Outgoing.{Outgoing}
 use Rattle.world.specs.declared.hold.Entry.{Entry}
 use Rattle.world.specs.declared.hold.Hold.{Hold}
@@ -23,10 +24,11 @@ use Rattle.world.specs.declared.delivered.Delivered.{Delivered}
 use Rattle.world.specs.Sizes.{holdPlaces}
 use Rattle.world.specs.Masks.{has}
 use Rattle.world.specs.Hold.{entryOf, freeEntry, entryAt, freeHold, entryPut, entryFreed, entryAddedAt, entryAdded}
+use Rattle.world.specs.Boxes.{noEntries}
 use Rattle.search.proofs.Booleans.{either, same?}
 use Rattle.search.proofs.Every.{found-at, found-where}
-use Rattle.kept.proofs.Facts.{noEntries, set-cases}
-use Rattle.agreement.proofs.Invariant.{Correct, holdAt, doneAt, made, Made, Matches, Of, Holds, Done, Belongs, Served, Spread, Inv}
+use Rattle.kept.proofs.Facts.{set-cases}
+use Rattle.agreement.proofs.Invariant.{Correct, holdAt, doneAt, made, Made, Matches, Of, Holds, Done, BelongsAs, Served, Spread, Inv}
 use Rattle.agreement.proofs.Keeping.{entries-keep}
 
 -- a hold with an entry put at a place
@@ -70,7 +72,7 @@ module _ {r : Roster} {q : Requests} {ts : List Executions} {os : List Outgoing}
         → Of e 2 s (made ts s k .id) sl ⊎ Done (made ts s k) (doneAt ds p))
         (first : (s k sl : ℕ) → Made ts s k → Matches q sl (made ts s k) → Of (entryAt (holdAt hs p) z) 1 s (made ts s k .id) sl
         → Of e 1 s (made ts s k .id) sl ⊎ (Done (made ts s k) (doneAt ds p) ⊎ (has (made ts s k .called) p ≡ true)))
-        (third : 3 ≤ e .stage → Belongs q ts (e .sender) (e .id) (e .slot) (e .number))
+        (third : 3 ≤ e .stage → BelongsAs q ts (e .sending) (e .number))
         (cause : (s k sl : ℕ) → Made ts s k → Matches q sl (made ts s k) → Of e 3 s (made ts s k .id) sl → Spread r os now ds s (made ts s k) sl) where
       pub entry-put : Inv r q ts os (set hs p (entryPut (holdAt hs p) z e)) ds
       entry-put =
@@ -92,9 +94,9 @@ module _ {r : Roster} {q : Requests} {ts : List Executions} {os : List Outgoing}
           (λ _ h. inl h) o)
           (λ o y.
           held-cases
-          (λ o h. Correct r o → 3 ≤ entryAt h y .stage → Belongs q ts (entryAt h y .sender) (entryAt h y .id) (entryAt h y .slot) (entryAt h y .number))
+          (λ o h. Correct r o → 3 ≤ entryAt h y .stage → BelongsAs q ts (entryAt h y .sending) (entryAt h y .number))
           (λ ok.
-          set-cases (λ (x : Entry). 3 ≤ x .stage → Belongs q ts (x .sender) (x .id) (x .slot) (x .number)) (holdAt hs p .places) z y e freeEntry (omega arith)
+          set-cases (λ (x : Entry). 3 ≤ x .stage → BelongsAs q ts (x .sending) (x .number)) (holdAt hs p .places) z y e freeEntry (omega arith)
           (λ _. third) (λ _. v .third p y ok))
           (λ o. v .third o y) o)
           (λ o s k sl ok m g.
@@ -105,7 +107,7 @@ module _ {r : Roster} {q : Requests} {ts : List Executions} {os : List Outgoing}
 
   -- no sending of stage three
   module _ (e : Entry) (low : e .stage < 3) where
-    none-third : 3 ≤ e .stage → Belongs q ts (e .sender) (e .id) (e .slot) (e .number)
+    none-third : 3 ≤ e .stage → BelongsAs q ts (e .sending) (e .number)
     none-third u = absurd (omega arith)
 
     none-cause : (s k sl : ℕ) → Made ts s k → Matches q sl (made ts s k) → Of e 3 s (made ts s k .id) sl → Spread r os (now e) ds s (made ts s k) sl
@@ -117,11 +119,19 @@ module _ {r : Roster} {q : Requests} {ts : List Executions} {os : List Outgoing}
         entry-put e (λ s k sl m g o. let u = o .up in absurd (omega arith)) (λ s k sl m g o. let u = o .up in absurd (omega arith)) none-third none-cause
 
     -- an entry of stage one, at stage two
-    pub entry-second : entryAt (holdAt hs p) z .stage ≡ 1 → 1 ≤ e .stage → e .sender ≡ entryAt (holdAt hs p) z .sender → e .id ≡ entryAt (holdAt hs p) z .id
-        → e .slot ≡ entryAt (holdAt hs p) z .slot → Inv r q ts os (set hs p (entryPut (holdAt hs p) z e)) ds
-    entry-second stage up a b c =
+    pub entry-second : entryAt (holdAt hs p) z .stage ≡ 1 → 1 ≤ e .stage → e .sending ≡ entryAt (holdAt hs p) z .sending
+        → Inv r q ts os (set hs p (entryPut (holdAt hs p) z e)) ds
+    entry-second stage up same =
         entry-put e (λ s k sl m g o. let u = o .up in absurd (omega arith))
-        (λ s k sl m g o. inl (record { up = up; sender = a ∙ o .sender; id = b ∙ o .id; slot = c ∙ o .slot })) none-third none-cause
+        (λ s k sl m g o.
+        inl
+        (record {
+          up = up;
+          sender = ap (λ (y : Sending). y .sender) same ∙ o .sender;
+          id = ap (λ (y : Sending). y .id) same ∙ o .id;
+          slot = ap (λ (y : Sending). y .slot) same ∙ o .slot;
+        }))
+        none-third none-cause
 
   -- an entry that goes: its execution has another digest, or it is delivered, or it is at stage one and its server has called
   pub entry-freed : ((s k sl : ℕ) → Made ts s k → Matches q sl (made ts s k) → Of (entryAt (holdAt hs p) z) 1 s (made ts s k .id) sl
@@ -141,7 +151,7 @@ module _ {r : Roster} {q : Requests} {ts : List Executions} {os : List Outgoing}
   -- an entry at stage three: its number is its execution's, and its sending is spread
   module _ (n : ℕ) where
     abbrev pub third : Entry
-    third = let e = entryAt (holdAt hs p) z in entryOf 3 (e .sender) (e .id) (e .slot) n
+    third = entryOf 3 (entryAt (holdAt hs p) z .sending) n
 
     as-third : (stage s i sl : ℕ) → stage ≤ 3 → Of (entryAt (holdAt hs p) z) stage s i sl → Of third stage s i sl
     as-third stage s i sl l o = record { up = l; sender = o .sender; id = o .id; slot = o .slot }
@@ -158,7 +168,7 @@ module _ {r : Roster} {q : Requests} {ts : List Executions} {os : List Outgoing}
         (λ d. inr d))))
         (λ _ g. g) o
 
-    pub entry-third : Belongs q ts (third .sender) (third .id) (third .slot) n
+    pub entry-third : BelongsAs q ts (third .sending) n
         → ((s k sl : ℕ) → Made ts s k → Matches q sl (made ts s k) → Of third 3 s (made ts s k .id) sl → Spread r os hs ds s (made ts s k) sl)
         → Inv r q ts os (set hs p (entryPut (holdAt hs p) z third)) ds
     entry-third belongs spread =

@@ -16,13 +16,13 @@ use Rattle.world.specs.Masks.{has}
 use Rattle.world.specs.Roster.{member, faulty}
 use Rattle.world.specs.Requests.{sameDigest}
 use Rattle.world.specs.Executions.{executionAt, executionOf, opened, called}
-use Rattle.world.specs.Boxes.{seat}
+use Rattle.world.specs.Boxes.{noPackets, noEntries, seat}
 use Rattle.world.proofs.Seats.{seat-own}
 use Rattle.protocol.specs.declared.boxes.Ruling.{Ruling}
 use Rattle.protocol.specs.Rules.{made, recorded, forgeSendOf, forgeReceiveTo, forgeReceiveFound, forgeReceiveOf}
 use Rattle.protocol.specs.Steps.{touch, boxesOf, putBack}
 use Rattle.search.proofs.Booleans.{apart, musts, and2, not-out}
-use Rattle.kept.proofs.Facts.{noPackets, noEntries, FactsOf}
+use Rattle.kept.proofs.Facts.{FactsOf}
 use Rattle.kept.proofs.Ordering.{found-made, not-found}
 use Rattle.agreement.proofs.Invariant.{Correct, tableAt, Cause, sender, settled, delivered, InvOf}
 use Rattle.agreement.proofs.Orders.{orders, orders-more, opening, not-delivered, send-keeps, call-keeps}

@@ -10,6 +10,7 @@ use Rattle.world.specs.declared.roster.Roster.{Roster}
 use Rattle.world.specs.declared.request.Requests.{Requests}
 use Rattle.world.specs.declared.execution.Execution.{Execution}
 use Rattle.world.specs.declared.execution.Executions.{Executions}
+use Rattle.world.specs.declared.sending.Sending.{Sending}
 use Rattle.world.specs.declared.outgoing.Outgoing.{Outgoing}
 use Rattle.world.specs.declared.outgoing.Packet.{Packet}
 use Rattle.world.specs.declared.hold.Entry.{Entry}
@@ -22,8 +23,7 @@ use Rattle.world.specs.Requests.{requestAt, sameDigest}
 use Rattle.world.specs.Executions.{executionAt}
 use Rattle.world.specs.Outgoing.{packetAt}
 use Rattle.world.specs.Hold.{entryAt}
-use Rattle.world.specs.Boxes.{itemAt}
-use Rattle.kept.proofs.Facts.{noTable, noPackets, noEntries, noItems}
+use Rattle.world.specs.Boxes.{noTable, noPackets, noEntries, noItems, itemAt}
 
 abbrev pub Correct : Roster → ℕ → Type 0
 Correct r p = correct r p ≡ true
@@ -54,9 +54,9 @@ pub record Matches (q : Requests) (slot : ℕ) (x : Execution) : Type 0 where
 -- an entry of a sending, at a stage or a later one; and a hold that has one
 pub record Of (e : Entry) (stage s i sl : ℕ) : Type 0 where
   pub up : stage ≤ e .stage
-  pub sender : e .sender ≡ s
-  pub id : e .id ≡ i
-  pub slot : e .slot ≡ sl
+  pub sender : e .sending .sender ≡ s
+  pub id : e .sending .id ≡ i
+  pub slot : e .sending .slot ≡ sl
 
 pub record Holds (h : Hold) (stage s i sl : ℕ) : Type 0 where
   pub place : ℕ
@@ -66,9 +66,9 @@ pub record Holds (h : Hold) (stage s i sl : ℕ) : Type 0 where
 pub record Goes (k : Packet) (p s i sl : ℕ) : Type 0 where
   pub there : k .there ≡ true
   pub to : k .to ≡ p
-  pub sender : k .sender ≡ s
-  pub id : k .id ≡ i
-  pub slot : k .slot ≡ sl
+  pub sender : k .sending .sender ≡ s
+  pub id : k .sending .id ≡ i
+  pub slot : k .sending .slot ≡ sl
 
 pub record Under (os : List Outgoing) (p s i sl : ℕ) : Type 0 where
   pub origin : ℕ
@@ -88,6 +88,9 @@ pub record Belongs (q : Requests) (ts : List Executions) (s i sl n : ℕ) : Type
   pub number : made ts s place .number ≡ n
   pub some : 0 < n
   pub matches : Matches q sl (made ts s place)
+
+abbrev pub BelongsAs : Requests → List Executions → Sending → ℕ → Type 0
+BelongsAs q ts s n = Belongs q ts (s .sender) (s .id) (s .slot) n
 
 -- a correct server that has called for an execution has its request with a good seal, and holds it at stage two or three or has delivered it
 pub record Called (q : Requests) (x : Execution) (s : ℕ) (h : Hold) (d : Delivered) (p : ℕ) : Type 0 where
@@ -116,12 +119,11 @@ Calls r q ts hs ds =
 abbrev pub Third : Roster → Requests → List Executions → List Hold → Type 0
 Third r q ts hs =
     (p z : ℕ) → Correct r p → 3 ≤ entryAt (holdAt hs p) z .stage
-    → Belongs q ts (entryAt (holdAt hs p) z .sender) (entryAt (holdAt hs p) z .id) (entryAt (holdAt hs p) z .slot) (entryAt (holdAt hs p) z .number)
+    → BelongsAs q ts (entryAt (holdAt hs p) z .sending) (entryAt (holdAt hs p) z .number)
 
 abbrev pub Prefix : Roster → Requests → List Executions → List Delivered → Type 0
 Prefix r q ts ds =
-    (p j : ℕ) → Correct r p → j < doneAt ds p .count
-    → Belongs q ts (itemAt (doneAt ds p) j .sender) (itemAt (doneAt ds p) j .id) (itemAt (doneAt ds p) j .slot) (j + 1)
+    (p j : ℕ) → Correct r p → j < doneAt ds p .count → BelongsAs q ts (itemAt (doneAt ds p) j) (j + 1)
 
 abbrev pub Spreads : Roster → Requests → List Executions → List Outgoing → List Hold → List Delivered → Type 0
 Spreads r q ts os hs ds =

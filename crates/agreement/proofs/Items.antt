@@ -10,48 +10,45 @@ use Rattle.world.specs.declared.request.Requests.{Requests}
 use Rattle.world.specs.declared.execution.Execution.{Execution}
 use Rattle.world.specs.declared.execution.Executions.{Executions}
 use Rattle.world.specs.declared.outgoing.Outgoing.{Outgoing}
-use Rattle.world.specs.declared.hold.Entry.{Entry}
 use Rattle.world.specs.declared.hold.Hold.{Hold}
-use Rattle.world.specs.declared.delivered.Item.{Item}
+use Rattle.world.specs.declared.sending.Sending.{Sending}
 use Rattle.world.specs.declared.delivered.Delivered.{Delivered}
 use Rattle.world.specs.Sizes.{deliveredMost}
 use Rattle.world.specs.Hold.{entryAt}
-use Rattle.world.specs.Delivered.{unusedItem, nextOf, appended}
-use Rattle.world.specs.Boxes.{itemAt}
+use Rattle.world.specs.Sending.{noSending}
+use Rattle.world.specs.Delivered.{nextOf, appended}
+use Rattle.world.specs.Boxes.{noItems, itemAt}
 use Rattle.search.proofs.Booleans.{either, less?}
-use Rattle.kept.proofs.Facts.{noItems, set-cases}
-use Rattle.agreement.proofs.Invariant.{Correct, holdAt, doneAt, made, Made, Matches, Holds, Done, Belongs, Cause, delivered, settled, Inv}
+use Rattle.kept.proofs.Facts.{set-cases}
+use Rattle.agreement.proofs.Invariant.{Correct, holdAt, doneAt, made, Made, Matches, Holds, Done, BelongsAs, Cause, delivered, settled, Inv}
 use Rattle.agreement.proofs.Keeping.{Keys, items-keep}
-
-abbrev pub itemOf : Entry → Item
-itemOf e = record { id = e .id; sender = e .sender; slot = e .slot }
 
 module _ {r : Roster} {q : Requests} {ts : List Executions} {os : List Outgoing} {hs : List Hold} {ds : List Delivered} (v : Inv r q ts os hs ds)
     (one : (a b : ℕ) (x : Execution) → Matches q a x → Matches q b x → a ≡ b) (m : ℕ) (keys : Keys m ts) (p : ℕ) (ok : Correct r p) (seated : p < length ds)
     (size : length (doneAt ds p .items) ≡ deliveredMost) (few : doneAt ds p .count < deliveredMost) (z : ℕ) (third : entryAt (holdAt hs p) z .stage ≡ 3)
     (next : entryAt (holdAt hs p) z .number ≡ doneAt ds p .count + 1) where
-  e : Entry
-  e = entryAt (holdAt hs p) z
+  e : Sending
+  e = entryAt (holdAt hs p) z .sending
 
-  belongs : Belongs q ts (e .sender) (e .id) (e .slot) (doneAt ds p .count + 1)
+  belongs : BelongsAs q ts e (doneAt ds p .count + 1)
   unfolding e
   belongs = rw next at (v .third p z ok (omega arith))
 
   abbrev pub now : List Delivered
-  now = set ds p (appended (doneAt ds p) (itemOf (entryAt (holdAt hs p) z)))
+  now = set ds p (appended (doneAt ds p) (entryAt (holdAt hs p) z .sending))
 
   counted : nextOf (doneAt ds p) ≡ doneAt ds p .count + 1
   counted = omega arith
 
-  done-cases : (P : ℕ → Delivered → Type 0) → P p (appended (doneAt ds p) (itemOf (entryAt (holdAt hs p) z))) → ((o : ℕ) → P o (doneAt ds o)) → (o : ℕ) → P o (doneAt now o)
+  done-cases : (P : ℕ → Delivered → Type 0) → P p (appended (doneAt ds p) (entryAt (holdAt hs p) z .sending)) → ((o : ℕ) → P o (doneAt ds o)) → (o : ℕ) → P o (doneAt now o)
   done-cases P here else o =
-      set-cases (λ y. P o y) ds p o (appended (doneAt ds p) (itemOf (entryAt (holdAt hs p) z))) noItems seated (λ (w : o ≡ p). rw w here) (λ _. else o)
+      set-cases (λ y. P o y) ds p o (appended (doneAt ds p) (entryAt (holdAt hs p) z .sending)) noItems seated (λ (w : o ≡ p). rw w here) (λ _. else o)
 
   new-items : (j : ℕ) → j < nextOf (doneAt ds p)
-      → (let i = itemAt (appended (doneAt ds p) (itemOf (entryAt (holdAt hs p) z))) j in Belongs q ts (i .sender) (i .id) (i .slot) (j + 1))
+      → (let i = itemAt (appended (doneAt ds p) (entryAt (holdAt hs p) z .sending)) j in BelongsAs q ts i (j + 1))
   unfolding e
   new-items j l =
-      set-cases (λ (i : Item). Belongs q ts (i .sender) (i .id) (i .slot) (j + 1)) (doneAt ds p .items) (doneAt ds p .count) j (itemOf (entryAt (holdAt hs p) z)) unusedItem (omega arith)
+      set-cases (λ (i : Sending). BelongsAs q ts i (j + 1)) (doneAt ds p .items) (doneAt ds p .count) j (entryAt (holdAt hs p) z .sending) noSending (omega arith)
       (λ (w : j ≡ doneAt ds p .count). rw w belongs)
       (λ (w : j ≢ doneAt ds p .count). v .prefix p j ok (omega (arith, counted)))
 
@@ -76,11 +73,11 @@ module _ {r : Roster} {q : Requests} {ts : List Executions} {os : List Outgoing}
       (λ (l : made ts s k .number ≤ doneAt ds p .count). delivered p ok (record { numbered = a; reached = l })))
       (λ o ok h g d. delivered o ok d) o
 
-  pub item-keeps : Inv r q ts os hs (set ds p (appended (doneAt ds p) (itemOf (entryAt (holdAt hs p) z))))
+  pub item-keeps : Inv r q ts os hs (set ds p (appended (doneAt ds p) (entryAt (holdAt hs p) z .sending)))
   item-keeps =
       items-keep v one now
       (λ o. done-cases (λ o d. doneAt ds o .count ≤ d .count) (omega (arith, counted)) (λ _. omega arith) o)
       (λ o j.
-      done-cases (λ o d. Correct r o → j < d .count → Belongs q ts (itemAt d j .sender) (itemAt d j .id) (itemAt d j .slot) (j + 1))
+      done-cases (λ o d. Correct r o → j < d .count → BelongsAs q ts (itemAt d j) (j + 1))
       (λ _ l. new-items j l) (λ o. v .prefix o j) o)
       back

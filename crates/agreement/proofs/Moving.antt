@@ -14,12 +14,13 @@ use Rattle.world.specs.declared.hold.Hold.{Hold}
 use Rattle.world.specs.declared.delivered.Delivered.{Delivered}
 use Rattle.world.specs.Sizes.{servers}
 use Rattle.world.specs.Roster.{member, faulty}
+use Rattle.world.specs.Boxes.{noTable, noPackets, noEntries, noItems}
 use Rattle.protocol.specs.declared.boxes.Boxes.{Boxes}
 use Rattle.protocol.specs.Rules.{withHold, withOutgoing, withDelivered}
 use Rattle.protocol.specs.declared.boxes.Touch.{Touch}
 use Rattle.protocol.specs.Steps.{boxesOf, putBack}
 use Rattle.search.proofs.Booleans.{and2, not-out}
-use Rattle.kept.proofs.Facts.{noTable, noPackets, noEntries, noItems, FactsOf, place-out, order-low}
+use Rattle.kept.proofs.Facts.{FactsOf, place-out, order-low}
 use Rattle.kept.proofs.Facts as facts
 use Rattle.kept.proofs.Masking.{masks-out}
 use Rattle.world.proofs.Seats.{few-servers}

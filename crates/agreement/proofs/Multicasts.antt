@@ -13,7 +13,7 @@ use Rattle.search.specs.Search.{isFound}
 use Rattle.world.specs.declared.World.{World}
 use Rattle.world.specs.declared.execution.Execution.{Execution}
 use Rattle.world.specs.declared.outgoing.Outgoing.{Outgoing}
-use Rattle.world.specs.declared.outgoing.Sending.{Sending}
+use Rattle.world.specs.declared.sending.Sending.{Sending}
 use Rattle.world.specs.declared.hold.Entry.{Entry}
 use Rattle.world.specs.declared.hold.Hold.{Hold}
 use Rattle.world.specs.Sizes.{executionsMost}
@@ -23,6 +23,7 @@ use Rattle.world.specs.Requests.{requestAt}
 use Rattle.world.specs.Executions.{opened}
 use Rattle.world.specs.Outgoing.{freePlaces, needed}
 use Rattle.world.specs.Hold.{entryOf, freeHold, entryAdded}
+use Rattle.world.specs.Boxes.{noPackets, noEntries}
 use Rattle.world.proofs.Seats.{seat-own}
 use Rattle.protocol.specs.declared.boxes.Ruling.{Ruling}
 use Rattle.protocol.specs.Rules.{made, multicastDone, roomy, multicastOf}
@@ -30,7 +31,7 @@ use Rattle.protocol.specs.Steps.{touch, boxesOf, putBack}
 use Rattle.search.proofs.Booleans.{either, musts, same?, and2, and-both}
 use Rattle.world.proofs.Bits.{nobody-has}
 use Rattle.kept.proofs.Requesting.{same-digest}
-use Rattle.kept.proofs.Facts.{noPackets, noEntries, FactsOf}
+use Rattle.kept.proofs.Facts.{FactsOf}
 use Rattle.agreement.proofs.Invariant.{Correct, holdAt, doneAt, tableAt, Matches, Holds, Called, Spread, Inv, InvOf}
 use Rattle.agreement.proofs.Entries.{kept-holds, entry-kept}
 use Rattle.agreement.proofs.Orders.{orders, orders-more, opening, send-keeps}
@@ -50,7 +51,7 @@ module _ (w : World) (f : FactsOf w) (v : InvOf w) where
     sending = record { id = id; sender = p; slot = slot }
 
     abbrev entry : Entry
-    entry = entryOf 2 p id slot 0
+    entry = entryOf 2 sending 0
 
     abbrev holds : List Hold
     holds = set (w .holds) p (entryAdded (holdAt (w .holds) p) entry)

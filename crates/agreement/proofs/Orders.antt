@@ -21,9 +21,10 @@ use Rattle.world.specs.Sizes.{servers, executionsMost, deliveredMost}
 use Rattle.world.specs.Masks.{nobody, has}
 use Rattle.world.specs.Roster.{threshold}
 use Rattle.world.specs.Executions.{noExecution, nextNumber, executionAt, opened, called, ordered}
+use Rattle.world.specs.Boxes.{noTable}
 use Rattle.search.proofs.Booleans.{apart, either, chosen, and2}
 use Rattle.world.proofs.Bits.{join-back, join-keeps, nobody-has}
-use Rattle.kept.proofs.Facts.{noTable, set-cases}
+use Rattle.kept.proofs.Facts.{set-cases}
 use Rattle.kept.proofs.Ordering.{changed}
 use Rattle.agreement.proofs.Invariant.{Correct, holdAt, doneAt, tableAt, made, Made, Matches, Done, Belongs, Called, Spread, Cause, sender, settled, delivered, Inv}
 use Rattle.agreement.proofs.Keeping.{Grown, tables-keep, belongs-on}

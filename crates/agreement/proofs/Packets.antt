@@ -14,13 +14,14 @@ use Rattle.search.proofs.Laws.{found-in, count-same}
 use Rattle.world.specs.declared.roster.Roster.{Roster}
 use Rattle.world.specs.declared.outgoing.Outgoing.{Outgoing}
 use Rattle.world.specs.declared.outgoing.Packet.{Packet}
-use Rattle.world.specs.declared.outgoing.Sending.{Sending}
+use Rattle.world.specs.declared.sending.Sending.{Sending}
 use Rattle.world.specs.Sizes.{servers, outgoingPlaces}
 use Rattle.world.specs.Outgoing.{freePacket, packetFor, packetAt, isFree, freeOutgoing, freePlaces, packetPut, packetFreed, packetAddedAt, packetAdded, recipient, needed, sentBelow, sent}
+use Rattle.world.specs.Boxes.{noPackets}
 use Rattle.search.proofs.Booleans.{apart, either, same?, not-out}
 use Rattle.search.proofs.Every.{found-at}
 use Rattle.kept.proofs.Counts.{count-some}
-use Rattle.kept.proofs.Facts.{noPackets, set-cases}
+use Rattle.kept.proofs.Facts.{set-cases}
 use Rattle.agreement.proofs.Invariant.{Goes, Under}
 
 -- a packet of one origin

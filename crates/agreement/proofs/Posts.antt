@@ -9,14 +9,15 @@ use lib.ListN.{length, getD, set}
 use borrow.Author.Tests.{ne-eqb}
 use Rattle.world.specs.declared.World.{World}
 use Rattle.world.specs.declared.outgoing.Outgoing.{Outgoing}
-use Rattle.world.specs.declared.outgoing.Sending.{Sending}
+use Rattle.world.specs.declared.sending.Sending.{Sending}
 use Rattle.world.specs.declared.hold.Hold.{Hold}
 use Rattle.world.specs.Sizes.{outgoingPlaces}
 use Rattle.world.specs.Masks.{has}
 use Rattle.world.specs.Roster.{member, faulty}
 use Rattle.world.specs.Outgoing.{freePlaces, needed, sent}
+use Rattle.world.specs.Boxes.{noPackets}
 use Rattle.search.proofs.Booleans.{and2, and-both, not-in}
-use Rattle.kept.proofs.Facts.{noPackets, FactsOf}
+use Rattle.kept.proofs.Facts.{FactsOf}
 use Rattle.agreement.proofs.Invariant.{Correct, Under, Inv}
 use Rattle.agreement.proofs.Keeping.{packets-keep}
 use Rattle.agreement.proofs.Packets.{sent-ways, sent-goes, under-still, under-now}

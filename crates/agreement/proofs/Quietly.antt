@@ -12,6 +12,7 @@ use Rattle.search.specs.declared.Found.the-variants.{At, Nothing}
 use Rattle.search.specs.Search.{isFound}
 use Rattle.world.specs.declared.World.{World}
 use Rattle.world.specs.declared.execution.Executions.{Executions}
+use Rattle.world.specs.declared.sending.Sending.{Sending}
 use Rattle.world.specs.declared.outgoing.Outgoing.{Outgoing}
 use Rattle.world.specs.declared.outgoing.Packet.{Packet}
 use Rattle.world.specs.declared.hold.Entry.{Entry}
@@ -21,12 +22,13 @@ use Rattle.world.specs.Executions.{executionAt, executionOf}
 use Rattle.world.specs.Outgoing.{packetAt, freePacket}
 use Rattle.world.specs.Hold.{entryAt, freeEntry}
 use Rattle.world.specs.Delivered.{nextOf}
+use Rattle.world.specs.Boxes.{noPackets}
 use Rattle.protocol.specs.Names.{tableOf, ownExecution}
 use Rattle.protocol.specs.Quiet.{outgoingQuiet, isNumbered, stirs, holdQuiet, serverQuiet, quiet}
 use Rattle.world.proofs.Seats.{seat-own}
 use Rattle.search.proofs.Booleans.{apart, either, less?, and2, and-both, implies-out, not-in, not-out}
 use Rattle.search.proofs.Every.{every-at}
-use Rattle.kept.proofs.Facts.{noPackets, inside, entry-out}
+use Rattle.kept.proofs.Facts.{inside, entry-out}
 use Rattle.agreement.proofs.Invariant.{Correct, holdAt, doneAt, made, Made, Holds, Under, Belongs, Served, Cause, settled, delivered}
 use Rattle.agreement.proofs.Keeping.{holds-less, belongs-at}
 use Rattle.agreement.proofs.Moving.{seated, few, keys}
@@ -44,21 +46,21 @@ or-no false b e = (refl, e)
 
 -- an entry with which its server, whose next number is given, could not go on
 record Rests (t : Executions) (next : ℕ) (e : Entry) : Type 0 where
-  first : isFound (ownExecution t e) ≡ true → e .stage ≢ 1
-  second : isNumbered t (ownExecution t e) ≡ true → e .stage ≢ 2
+  first : isFound (ownExecution t (e .sending)) ≡ true → e .stage ≢ 1
+  second : isNumbered t (ownExecution t (e .sending)) ≡ true → e .stage ≢ 2
   third : e .number ≡ next → e .stage ≢ 3
 
 rests : (t : Executions) (next : ℕ) (e : Entry) → stirs t next e ≡ false → Rests t next e
 unfolding stirs
 rests t next e h =
-    let a = eqb (e .stage) 1 && isFound (ownExecution t e) in
-    let b = eqb (e .stage) 2 && isNumbered t (ownExecution t e) in
+    let a = eqb (e .stage) 1 && isFound (ownExecution t (e .sending)) in
+    let b = eqb (e .stage) 2 && isNumbered t (ownExecution t (e .sending)) in
     let c = eqb (e .stage) 3 && eqb (e .number) next in
     let p = or-no (a || b) c h in
     let q = or-no a b (p .0) in
     record {
-      first = λ y. eqb-false (e .stage) 1 (and-no (eqb (e .stage) 1) (isFound (ownExecution t e)) (q .0) y);
-      second = λ y. eqb-false (e .stage) 2 (and-no (eqb (e .stage) 2) (isNumbered t (ownExecution t e)) (q .1) y);
+      first = λ y. eqb-false (e .stage) 1 (and-no (eqb (e .stage) 1) (isFound (ownExecution t (e .sending))) (q .0) y);
+      second = λ y. eqb-false (e .stage) 2 (and-no (eqb (e .stage) 2) (isNumbered t (ownExecution t (e .sending))) (q .1) y);
       third = λ y. eqb-false (e .stage) 3 (and-no (eqb (e .stage) 3) (eqb (e .number) next) (p .1) (eq-eqb (e .number) next y));
     }
 
@@ -91,7 +93,7 @@ module _ (w : World) (g : Good w) (q : quiet w ≡ true) where
   -- an entry of a correct server: it is of stage three at most, and its server could not go on with it
   record Idle (p z : ℕ) : Type 0 where
     top : entryAt (holdAt (w .holds) p) z .stage ≤ 3
-    rest : Rests (tableOf (w .executions) (entryAt (holdAt (w .holds) p) z .sender)) (nextOf (doneAt (w .delivered) p)) (entryAt (holdAt (w .holds) p) z)
+    rest : Rests (tableOf (w .executions) (entryAt (holdAt (w .holds) p) z .sending .sender)) (nextOf (doneAt (w .delivered) p)) (entryAt (holdAt (w .holds) p) z)
 
   idle : (p z : ℕ) → Correct (w .roster) p → 1 ≤ entryAt (holdAt (w .holds) p) z .stage → Idle p z
   unfolding holdQuiet
@@ -102,22 +104,22 @@ module _ (w : World) (g : Good w) (q : quiet w ≡ true) where
       let s = seated w (g .facts) p c in
       let f = g .facts .entries p s in
       let l = inside (λ (e : Entry). 1 ≤ e .stage) (h .places) z holdPlaces freeEntry (f .size) up (λ e. omega arith) in
-      let y : stirs (tableOf (w .executions) (e .sender)) next e ≡ false =
-      not-out _ (every-at (λ (k : ℕ). not (stirs (tableOf (w .executions) (entryAt h k .sender)) next (entryAt h k))) holdPlaces (server-quiet p s .1 c) z l)
+      let y : stirs (tableOf (w .executions) (e .sending .sender)) next e ≡ false =
+      not-out _ (every-at (λ (k : ℕ). not (stirs (tableOf (w .executions) (entryAt h k .sending .sender)) next (entryAt h k))) holdPlaces (server-quiet p s .1 c) z l)
       in
       record {
         top = entry-out (w .roster) (w .requests .count) (w .numbered) p _ e (λ z. omega arith) (f .places z l) .stage;
-        rest = rests (tableOf (w .executions) (e .sender)) next e y;
+        rest = rests (tableOf (w .executions) (e .sending .sender)) next e y;
       }
 
-  -- the execution that an entry of a sending names
-  own-at : (e : Entry) {s k : ℕ} → Made (w .executions) s k → e .sender ≡ s → e .id ≡ made (w .executions) s k .id
+  -- the execution of a sending
+  own-at : (e : Sending) {s k : ℕ} → Made (w .executions) s k → e .sender ≡ s → e .id ≡ made (w .executions) s k .id
       → ownExecution (tableOf (w .executions) (e .sender)) e ≡ At k
   own-at e {s} {k} t a b =
       let own : ℕ → ℕ → Found = λ (x i : ℕ). cond (ltb x servers) (executionOf (tableOf (w .executions) x) i) Nothing in
       ap (λ (x : ℕ). own x (e .id)) a ∙ ap (λ (i : ℕ). own s i) b ∙ rw (lt-ltb s servers (t .seated)) (id-finds w (g .facts) t)
 
-  own-numbered : (e : Entry) {s k : ℕ} → Made (w .executions) s k → e .sender ≡ s → e .id ≡ made (w .executions) s k .id → made (w .executions) s k .number ≢ 0
+  own-numbered : (e : Sending) {s k : ℕ} → Made (w .executions) s k → e .sender ≡ s → e .id ≡ made (w .executions) s k .id → made (w .executions) s k .number ≢ 0
       → isNumbered (tableOf (w .executions) (e .sender)) (ownExecution (tableOf (w .executions) (e .sender)) e) ≡ true
   own-numbered e {s} {k} t a b d =
       ap (λ (f : Found). isNumbered (tableOf (w .executions) (e .sender)) f) (own-at e t a b)
@@ -130,8 +132,8 @@ module _ (w : World) (g : Good w) (q : quiet w ≡ true) where
     third-stage h =
         let e = entryAt (holdAt (w .holds) p) (h .place) in
         let d = idle p (h .place) c (h .is .up) in
-        let a = d .rest .first (rw (own-at e t (h .is .sender) (h .is .id))) in
-        let b = d .rest .second (own-numbered e t (h .is .sender) (h .is .id) some) in
+        let a = d .rest .first (rw (own-at (e .sending) t (h .is .sender) (h .is .id))) in
+        let b = d .rest .second (own-numbered (e .sending) t (h .is .sender) (h .is .id) some) in
         let up = h .is .up in
         record { place = h .place; is = record { up = omega arith; sender = h .is .sender; id = h .is .id; slot = h .is .slot } }
 
@@ -142,7 +144,7 @@ module _ (w : World) (g : Good w) (q : quiet w ≡ true) where
         let up = h .is .up in
         let d = idle p (h .place) c (omega arith) in
         let top = d .top in
-        let b = subst (λ (x : ℕ). Belongs (w .requests) (w .executions) x (e .id) (e .slot) (e .number)) (h .is .sender) (g .inv .third p (h .place) c up) in
+        let b = subst (λ (x : ℕ). Belongs (w .requests) (w .executions) x (e .sending .id) (e .sending .slot) (e .number)) (h .is .sender) (g .inv .third p (h .place) c up) in
         d .rest .third (sym (belongs-at (keys w (g .facts)) k b t (h .is .id) .0) ∙ y) (omega arith)
 
   -- a numbered sending is spread

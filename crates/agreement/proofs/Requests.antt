@@ -18,7 +18,7 @@ use Rattle.world.specs.Roster.{strays}
 use Rattle.world.specs.Requests.{noRequest, requestAt, sameDigest, knownDigest}
 use Rattle.protocol.specs.declared.boxes.Requested.{Requested}
 use Rattle.protocol.specs.Rules.{requestFrom, requestOf}
-use Rattle.protocol.specs.Steps.{withRequests}
+use Rattle.world.specs.Boxes.{withRequests}
 use Rattle.search.proofs.Booleans.{apart, either, less?, musts, not-out}
 use Rattle.search.proofs.Every.{any-none}
 use Rattle.kept.proofs.Facts.{FactsOf}

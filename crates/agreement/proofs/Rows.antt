@@ -10,7 +10,7 @@ use Rattle.world.specs.declared.World.{World}
 use Rattle.world.specs.declared.roster.Roster.{Roster}
 use Rattle.world.specs.declared.hold.Entry.{Entry}
 use Rattle.world.specs.declared.delivered.Delivered.{Delivered}
-use Rattle.world.specs.declared.delivered.Item.{Item}
+use Rattle.world.specs.declared.sending.Sending.{Sending}
 use Rattle.world.specs.Sizes.{holdPlaces}
 use Rattle.world.specs.Hold.{entryAt, freeEntry, isEntry, holding}
 use Rattle.world.proofs.Seats.{seat-own}
@@ -36,25 +36,26 @@ leads-same g =
     record { good = g; moves = record { inv = g .inv; roster = refl; more = omega arith; belongs = λ s i sl n b. b; still = inl refl } }
 
 -- an entry of a sending passes the test for one
-entry-is : {e : Entry} {stage s i sl : ℕ} → 0 < stage → Of e stage s i sl → isEntry e s i sl ≡ true
-entry-is {e} {stage} {s} {i} {sl} some o =
+entry-is : {e : Entry} {stage : ℕ} {s : Sending} → 0 < stage → Of e stage (s .sender) (s .id) (s .slot) → isEntry e s ≡ true
+entry-is {e} {stage} {s} some o =
     let up = o .up in
     and-both
     (and-both
-    (and-both (not-in _ (ne-eqb (e .stage) 0 (λ z. omega arith))) (eq-eqb (e .sender) s (o .sender)))
-    (eq-eqb (e .id) i (o .id)))
-    (eq-eqb (e .slot) sl (o .slot))
+    (and-both (not-in _ (ne-eqb (e .stage) 0 (λ z. omega arith))) (eq-eqb (e .sending .sender) (s .sender) (o .sender)))
+    (eq-eqb (e .sending .id) (s .id) (o .id)))
+    (eq-eqb (e .sending .slot) (s .slot) (o .slot))
 
 module _ (w : World) (g : Good w) where
-  held-in : (p : ℕ) → Correct (w .roster) p → {s i sl : ℕ} → Holds (holdAt (w .holds) p) 2 s i sl → holding (holdAt (w .holds) p) s i sl ≡ true
-  held-in p c {s} {i} {sl} h =
+  held-in : (p : ℕ) → Correct (w .roster) p → (s : Sending) → Holds (holdAt (w .holds) p) 2 (s .sender) (s .id) (s .slot)
+      → holding (holdAt (w .holds) p) s ≡ true
+  held-in p c s h =
       let k = holdAt (w .holds) p in
       let up = h .is .up in
       let l =
       inside (λ (e : Entry). 2 ≤ e .stage) (k .places) (h .place) holdPlaces freeEntry
       (g .facts .entries p (seated w (g .facts) p c) .size) up (λ e. omega arith)
       in
-      any-in (λ (z : ℕ). isEntry (entryAt k z) s i sl) holdPlaces (h .place) l (entry-is (omega arith) (h .is))
+      any-in (λ (z : ℕ). isEntry (entryAt k z) s) holdPlaces (h .place) l (entry-is (omega arith) (h .is))
 
   -- a correct server that has called for a sending and holds it vouches for it
   member-vouched : {n : ℕ} (m : Member w n)
@@ -65,7 +66,7 @@ module _ (w : World) (g : Good w) where
         server = m .server;
         good = m .good;
         seal = m .called .seal;
-        held = rw (seat-own (m .server) (seated w (g .facts) (m .server) (m .good))) (held-in (m .server) (m .good) h);
+        held = rw (seat-own (m .server) (seated w (g .facts) (m .server) (m .good))) (held-in (m .server) (m .good) _ h);
       }
 
 -- the sending of a number that a step gives
@@ -83,10 +84,10 @@ module _ (w v : World) (g : Good w) (l : Leads w v) (n : ℕ) (before : w .numbe
       (λ (z : v .delivered ≡ w .delivered). let y = ap (λ (ds : List Delivered). doneAt ds p .count) z in omega arith)
 
   -- so a correct server vouches for its sending
-  new-vouched : (i : Item) → ((s j sl : ℕ) → Belongs (v .requests) (v .executions) s j sl n → i ≡ record { id = j; sender = s; slot = sl }) → Vouched v i
+  new-vouched : (i : Sending) → ((s j sl : ℕ) → Belongs (v .requests) (v .executions) s j sl n → i ≡ record { id = j; sender = s; slot = sl }) → Vouched v i
   new-vouched i same =
       let m = member-of v (l .good) n (omega arith) after in
-      subst (λ (i : Item). Vouched v i) (sym (same _ _ _ (member-belongs v (omega arith) m)))
+      subst (λ (i : Sending). Vouched v i) (sym (same _ _ _ (member-belongs v (omega arith) m)))
       (member-vouched v (l .good) m
       (either (m .called .kept)
       (λ (h : Holds (holdAt (v .holds) (m .server)) 2 (m .sender) (made (v .executions) (m .sender) (m .place) .id) (m .called .slot)). h)

@@ -6,17 +6,17 @@ use Prim.Native.Nat.{ℕ, _<_, _≤_}
 use native.Mathlib.Omega.{arith}
 use lib.ListN.{length, getD, length-append, List·getD-append}
 use Rattle.world.specs.declared.World.{World}
-use Rattle.world.specs.declared.delivered.Item.{Item}
+use Rattle.world.specs.declared.sending.Sending.{Sending}
 use Rattle.world.specs.Roster.{correct}
-use Rattle.world.specs.Delivered.{unusedItem}
+use Rattle.world.specs.Sending.{noSending}
 use Rattle.agreement.specs.Agreement.{sendingAt, deliveredBy, Begins, Agreed}
 use Rattle.agreement.specs.Sanity.{deliveredAt, OrdersDiffer, DeliveredTwice, LeftBehind, ShutOut, Sane}
 
 -- a beginning has the items of the whole, and is not longer
-begins-at : {l all : List Item} → Begins l all → (k : ℕ) → k < length l → getD l k unusedItem ≡ getD all k unusedItem
-begins-at {l} b k h = sym (List·getD-append l (b .rest) unusedItem k h) ∙ ap (λ (x : List Item). getD x k unusedItem) (b .whole)
+begins-at : {l all : List Sending} → Begins l all → (k : ℕ) → k < length l → getD l k noSending ≡ getD all k noSending
+begins-at {l} b k h = sym (List·getD-append l (b .rest) noSending k h) ∙ ap (λ (x : List Sending). getD x k noSending) (b .whole)
 
-begins-short : {l all : List Item} → Begins l all → length l ≤ length all
+begins-short : {l all : List Sending} → Begins l all → length l ≤ length all
 begins-short {l} b = let e = ap length (b .whole) in let f = length-append l (b .rest) in omega arith
 
 module _ (w : World) (a : Agreed w) where
@@ -36,8 +36,8 @@ delivered-twice w d a =
     let again = listed w a (d .server) (d .good) (d .again) (d .again-in-list) in
     d .two
     (a .once (d .place) (d .again) (below w a (d .server) (d .good) (d .place) (d .in-list)) (below w a (d .server) (d .good) (d .again) (d .again-in-list))
-    (sym (ap (λ (i : Item). i .sender) one) ∙ d .sender ∙ ap (λ (i : Item). i .sender) again)
-    (sym (ap (λ (i : Item). i .id) one) ∙ d .id ∙ ap (λ (i : Item). i .id) again))
+    (sym (ap (λ (i : Sending). i .sender) one) ∙ d .sender ∙ ap (λ (i : Sending). i .sender) again)
+    (sym (ap (λ (i : Sending). i .id) one) ∙ d .id ∙ ap (λ (i : Sending). i .id) again))
 
 pub left-behind : ShutOut LeftBehind
 left-behind w d a =

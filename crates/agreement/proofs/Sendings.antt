@@ -14,11 +14,11 @@ use Rattle.world.specs.declared.World.{World}
 use Rattle.world.specs.declared.request.Requests.{Requests}
 use Rattle.world.specs.declared.execution.Execution.{Execution}
 use Rattle.world.specs.declared.execution.Executions.{Executions}
-use Rattle.world.specs.declared.delivered.Item.{Item}
+use Rattle.world.specs.declared.sending.Sending.{Sending}
 use Rattle.world.specs.Sizes.{servers, requestsMost, executionsMost}
 use Rattle.world.specs.Requests.{requestAt, sameDigest}
 use Rattle.world.specs.Executions.{executionAt, executionOf}
-use Rattle.world.specs.Delivered.{unusedItem}
+use Rattle.world.specs.Sending.{noSending}
 use Rattle.protocol.specs.Names.{tableOf}
 use Rattle.protocol.specs.Sound.{numberAt}
 use Rattle.world.proofs.Seats.{seat-own}
@@ -42,7 +42,7 @@ placed ts {i} {s} {k} h z =
     ∙ ap (λ (x : ℕ). made ts x k) (seat-own s h)
 
 -- a sender's execution, as a server would deliver it
-abbrev sendingBy : Requests → Execution → ℕ → Item
+abbrev sendingBy : Requests → Execution → ℕ → Sending
 sendingBy q x s = record { id = x .id; sender = s; slot = slotOf q (x .digest) }
 
 sendings-by : (q : Requests) (ts : List Executions) {i s k : ℕ} → s < servers → Index i s k
@@ -162,20 +162,20 @@ unfolding sendingsTo
 sendings-length w zero = refl
 sendings-length w (suc m) = length-append (sendingsTo w m) (sendingOf w (m + 1) ∷ []) ∙ (let a = sendings-length w m in omega arith)
 
-pub sendings-at : (w : World) (m k : ℕ) → k < m → getD (sendingsTo w m) k unusedItem ≡ sendingOf w (k + 1)
+pub sendings-at : (w : World) (m k : ℕ) → k < m → getD (sendingsTo w m) k noSending ≡ sendingOf w (k + 1)
 unfolding sendingsTo
 sendings-at w zero k h = absurd (omega arith)
 sendings-at w (suc m) k h =
     let l = sendings-length w m in
     either (same? k m)
-    (λ (e : k ≡ m). rw e (getD-at (sendingsTo w m) (sendingOf w (m + 1)) [] unusedItem m l))
-    (λ (e : k ≢ m). List·getD-append (sendingsTo w m) (sendingOf w (m + 1) ∷ []) unusedItem k (omega arith) ∙ sendings-at w m k (omega arith))
+    (λ (e : k ≡ m). rw e (getD-at (sendingsTo w m) (sendingOf w (m + 1)) [] noSending m l))
+    (λ (e : k ≢ m). List·getD-append (sendingsTo w m) (sendingOf w (m + 1) ∷ []) noSending k (omega arith) ∙ sendings-at w m k (omega arith))
 
 -- a list that agrees with a longer one at each of its places is a beginning of it
-pub begins-by : (l all : List Item) → length l ≤ length all → ((k : ℕ) → k < length l → getD l k unusedItem ≡ getD all k unusedItem) → Begins l all
+pub begins-by : (l all : List Sending) → length l ≤ length all → ((k : ℕ) → k < length l → getD l k noSending ≡ getD all k noSending) → Begins l all
 begins-by l all h e =
     let t : length (take (length l) all) ≡ length l = length-take-le (length l) all h in
     let same : l ≡ take (length l) all =
-    ext-getD unusedItem l (take (length l) all) (sym t) (λ k p. e k p ∙ sym (getD-take (length l) all k unusedItem p))
+    ext-getD noSending l (take (length l) all) (sym t) (λ k p. e k p ∙ sym (getD-take (length l) all k noSending p))
     in
-    record { rest = drop (length l) all; whole = ap (λ (x : List Item). x ++ drop (length l) all) same ∙ take-append-drop (length l) all }
+    record { rest = drop (length l) all; whole = ap (λ (x : List Sending). x ++ drop (length l) all) same ∙ take-append-drop (length l) all }

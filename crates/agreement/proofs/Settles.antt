@@ -14,19 +14,18 @@ use Rattle.search.specs.declared.Found.the-variants.{At, Nothing}
 use Rattle.world.specs.declared.World.{World}
 use Rattle.world.specs.declared.execution.Execution.{Execution}
 use Rattle.world.specs.declared.outgoing.Outgoing.{Outgoing}
-use Rattle.world.specs.declared.outgoing.Sending.{Sending}
-use Rattle.world.specs.declared.hold.Entry.{Entry}
+use Rattle.world.specs.declared.sending.Sending.{Sending}
 use Rattle.world.specs.Masks.{has}
 use Rattle.world.specs.Requests.{requestAt, sameDigest}
 use Rattle.world.specs.Executions.{executionOf}
 use Rattle.world.specs.Outgoing.{freePlaces, needed}
 use Rattle.world.specs.Hold.{entryOf, entryAt, entryPut}
-use Rattle.world.specs.Boxes.{holdOf}
+use Rattle.world.specs.Boxes.{noPackets, noItems, holdOf}
 use Rattle.protocol.specs.declared.boxes.Ruling.{Ruling}
 use Rattle.protocol.specs.Rules.{settleTo, settleFound, settleOf}
-use Rattle.protocol.specs.Steps.{touch, boxesOf, putBack}
+use Rattle.protocol.specs.Steps.{touchFor, boxesOf, putBack}
 use Rattle.search.proofs.Booleans.{either, test, musts, must-cases, same?, not-out, not-no}
-use Rattle.kept.proofs.Facts.{noPackets, noItems, FactsOf}
+use Rattle.kept.proofs.Facts.{FactsOf}
 use Rattle.agreement.proofs.Invariant.{Correct, holdAt, doneAt, tableAt, made, Matches, Belongs, Served, Spread, sender, Inv, InvOf}
 use Rattle.agreement.proofs.Keeping.{holds-less}
 use Rattle.agreement.proofs.Entries.{entry-third}
@@ -37,31 +36,28 @@ use Rattle.agreement.proofs.Uses.{Uses, uses, its-made, its-id, its-onl
 
 module _ (w : World) (f : FactsOf w) (v : InvOf w) where
   module _ (p : ℕ) (ok : Correct (w .roster) p) (place : ℕ) (second : entryAt (holdAt (w .holds) p) place .stage ≡ 2) where
-    abbrev e : Entry
-    e = entryAt (holdAt (w .holds) p) place
+    abbrev sending : Sending
+    sending = entryAt (holdAt (w .holds) p) place .sending
 
     u : Uses w f v p ok place
     u = uses w f v p ok place 2 (λ z. omega arith) second
 
-    abbrev sending : Sending
-    sending = record { id = e .id; sender = e .sender; slot = e .slot }
-
-    module _ (k : ℕ) (q : executionOf (tableAt (w .executions) (e .sender)) (e .id) ≡ At k) where
+    module _ (k : ℕ) (q : executionOf (tableAt (w .executions) (sending .sender)) (sending .id) ≡ At k) where
       abbrev x : Execution
-      x = made (w .executions) (e .sender) k
+      x = made (w .executions) (sending .sender) k
 
-      module _ (some : x .number ≢ 0) (same : sameDigest (requestAt (w .requests) (e .slot) .digest) (x .digest) ≡ true) where
-        matches : Matches (w .requests) (e .slot) x
+      module _ (some : x .number ≢ 0) (same : sameDigest (requestAt (w .requests) (sending .slot) .digest) (x .digest) ≡ true) where
+        matches : Matches (w .requests) (sending .slot) x
         matches = record { stored = u .slot; same = same }
 
-        belongs : Belongs (w .requests) (w .executions) (e .sender) (e .id) (e .slot) (x .number)
+        belongs : Belongs (w .requests) (w .executions) (sending .sender) (sending .id) (sending .slot) (x .number)
         belongs =
             record { place = k; there = its-made w f v p ok place u k q; id = its-id w f v p ok place u k q; number = refl; some = omega arith; matches = matches }
 
         -- the entry goes to stage three where its sending is spread
         raises : {os : List Outgoing} → Inv (w .roster) (w .requests) (w .executions) os (w .holds) (w .delivered)
-            → Spread (w .roster) os (w .holds) (w .delivered) (e .sender) x (e .slot)
-            → Inv (w .roster) (w .requests) (w .executions) os (set (w .holds) p (entryPut (holdAt (w .holds) p) place (entryOf 3 (e .sender) (e .id) (e .slot) (x .number)))) (w .delivered)
+            → Spread (w .roster) os (w .holds) (w .delivered) (sending .sender) x (sending .slot)
+            → Inv (w .roster) (w .requests) (w .executions) os (set (w .holds) p (entryPut (holdAt (w .holds) p) place (entryOf 3 sending (x .number)))) (w .delivered)
         raises {os} n spread =
             let s = seated w f p ok in
             entry-third n (one w f) p (in-holds w f p ok) place (f .entries p s .size) (u .within) (x .number) belongs
@@ -69,21 +65,21 @@ module _ (w : World) (f : FactsOf w) (v : InvOf w) where
             rw (its-only w f v p ok place u k q {stage = 0} m (record { up = omega arith; sender = o .sender; id = o .id; slot = o .slot }), ← o .sender, ← o .slot) spread)
 
         -- a correct sender's sending is spread
-        own-spread : e .sender ≡ p → Spread (w .roster) (w .outgoing) (w .holds) (w .delivered) (e .sender) x (e .slot)
-        own-spread y = v .spread (e .sender) k (e .slot) (its-made w f v p ok place u k q) matches (sender (rw y ok))
+        own-spread : sending .sender ≡ p → Spread (w .roster) (w .outgoing) (w .holds) (w .delivered) (sending .sender) x (sending .slot)
+        own-spread y = v .spread (sending .sender) k (sending .slot) (its-made w f v p ok place u k q) matches (sender (rw y ok))
 
         abbrev mail : List Outgoing
         mail = posts w f p ok (x .mask) sending
 
         -- a server of the final mask has called, so it holds the sending or has delivered it
-        member-served : (o : ℕ) → Correct (w .roster) o → has (x .mask) o ≡ true → Served mail (holdAt (w .holds) o) x (doneAt (w .delivered) o) (e .sender) (e .slot) o
+        member-served : (o : ℕ) → Correct (w .roster) o → has (x .mask) o ≡ true → Served mail (holdAt (w .holds) o) x (doneAt (w .delivered) o) (sending .sender) (sending .slot) o
         member-served o good y =
             let m = its-made w f v p ok place u k q in
-            let c = v .calls (e .sender) k o m good (keys w f .within (e .sender) k o (seated w f o good) m y) in
-            let z = one w f (c .slot) (e .slot) x (c .matches) matches in
+            let c = v .calls (sending .sender) k o m good (keys w f .within (sending .sender) k o (seated w f o good) m y) in
+            let z = one w f (c .slot) (sending .slot) x (c .matches) matches in
             inr (either (c .kept) (λ h. inl (rw z at (holds-less {b = 1} (omega arith) h))) (λ d. inr d))
 
-        sent-spread : needed (w .roster) (x .mask) p ≤ freePlaces (getD (w .outgoing) p noPackets) → Spread (w .roster) mail (w .holds) (w .delivered) (e .sender) x (e .slot)
+        sent-spread : needed (w .roster) (x .mask) p ≤ freePlaces (getD (w .outgoing) p noPackets) → Spread (w .roster) mail (w .holds) (w .delivered) (sending .sender) x (sending .slot)
         sent-spread room o good =
             either (same? o p)
             (λ (z : o ≡ p).
@@ -91,33 +87,33 @@ module _ (w : World) (f : FactsOf w) (v : InvOf w) where
             (λ (z : o ≢ p).
             test (has (x .mask) o) (λ y. member-served o good y) (λ n. inl (rw (its-id w f v p ok place u k q) (posts-under w f p ok (x .mask) sending room o good z n))))
 
-    settles : (g : Found) → g ≡ executionOf (tableAt (w .executions) (e .sender)) (e .id)
-        → (let t = at p p (e .sender) (e .slot) in Moves w (putBack w t (settleFound (w .roster) p place (boxesOf w t) g .boxes)))
+    settles : (g : Found) → g ≡ executionOf (tableAt (w .executions) (sending .sender)) (sending .id)
+        → (let t = at p p (sending .sender) (sending .slot) in Moves w (putBack w t (settleFound (w .roster) p place (boxesOf w t) g .boxes)))
     unfolding settleFound settleTo
     settles (At k) q =
-        let t = at p p (e .sender) (e .slot) in
+        let t = at p p (sending .sender) (sending .slot) in
         let P : Ruling → Type 0 = λ s. Moves w (putBack w t (s .boxes)) in
-        let y = made (w .executions) (e .sender) k in
+        let y = made (w .executions) (sending .sender) k in
         let r = sym q in
         let nothing = stays w f t v in
         musts P (not (eqb (y .number) 0)) _ _ nothing λ number.
         let some = eqb-false (y .number) 0 (not-out (eqb (y .number) 0) number) in
-        must-cases P (sameDigest (requestAt (w .requests) (e .slot) .digest) (y .digest)) _ _
-        (λ n. dropped w f v p ok place u k r (e .sender) (e .slot) (inr n)) λ same.
-        must-cases P (not (eqb (e .sender) p)) _ _
-        (λ (n : not (eqb (e .sender) p) ≡ false).
-        calm-entry w f t _ (raises k r some same v (own-spread k r some same (eqb-true (e .sender) p (not-no (eqb (e .sender) p) n))))) λ _.
+        must-cases P (sameDigest (requestAt (w .requests) (sending .slot) .digest) (y .digest)) _ _
+        (λ n. dropped w f v p ok place u k r (sending .sender) (sending .slot) (inr n)) λ same.
+        must-cases P (not (eqb (sending .sender) p)) _ _
+        (λ (n : not (eqb (sending .sender) p) ≡ false).
+        calm-entry w f t _ (raises k r some same v (own-spread k r some same (eqb-true (sending .sender) p (not-no (eqb (sending .sender) p) n))))) λ _.
         musts P (leb (needed (w .roster) (y .mask) p) (freePlaces (getD (w .outgoing) p noPackets))) _ _ nothing λ room.
         calm w f t _ _ _
         (rw (set-getD (w .delivered) p noItems)
         (raises k r some same (posts-keep w f p ok (y .mask) sending v)
         (sent-spread k r some same (leb-true (needed (w .roster) (y .mask) p) (freePlaces (getD (w .outgoing) p noPackets)) room))))
-    settles Nothing q = stays w f (at p p (e .sender) (e .slot)) v
+    settles Nothing q = stays w f (at p p (sending .sender) (sending .slot)) v
 
   pub settle-moves : (server place : ℕ)
-      → (let e = entryAt (holdOf w server) place in let t = touch server server (e .sender) (e .slot) in
+      → (let t = touchFor server (entryAt (holdOf w server) place .sending) in
       Moves w (putBack w t (settleOf (w .roster) server place (boxesOf w t) .boxes)))
   unfolding settleOf
   settle-moves server place =
-      entry-moves w f v 2 (λ z. omega arith) server place (λ b. settleFound (w .roster) server place b (executionOf (b .executions) (entryAt (b .hold) place .id)))
+      entry-moves w f v 2 (λ z. omega arith) server place (λ b. settleFound (w .roster) server place b (executionOf (b .executions) (entryAt (b .hold) place .sending .id)))
       (λ ok second. settles server ok place second _ refl)

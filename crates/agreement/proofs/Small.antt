@@ -17,13 +17,13 @@ use Rattle.world.specs.Sizes.{servers, executionsMost}
 use Rattle.world.specs.Masks.{nobody, join}
 use Rattle.world.specs.Executions.{executionAt, noExecution, opened, called, ordered, freshExecutions, unusedExecution}
 use Rattle.world.specs.Fresh.{freshWorld}
+use Rattle.world.specs.Boxes.{noTable}
 use Rattle.protocol.specs.declared.boxes.Boxes.{Boxes}
 use Rattle.protocol.specs.declared.boxes.Ruling.{Ruling}
 use Rattle.protocol.specs.Rules.{made, recorded, raised, multicastDone, multicastOf, arriveOf, proposeTo, proposeFound, proposeOf, settleTo, settleFound, settleOf, deliverFound, deliverOf, forgePacketOf, forgeSendOf, forgeReceiveTo, forgeReceiveFound, forgeReceiveOf}
 use Rattle.format.specs.Records.{Asked, Request, Multicast, Arrive, Propose, Settle, Deliver, ForgePacket, ForgeSend, ForgeReceive}
 use Rattle.protocol.specs.Steps.{stepOf}
 use Rattle.search.proofs.Booleans.{chosen, musts}
-use Rattle.kept.proofs.Facts.{noTable}
 use Rattle.kept.proofs.Ordering.{changed}
 use Rattle.agreement.proofs.Invariant.{tableAt}
 use Rattle.agreement.proofs.Lists.{set-both, filled}

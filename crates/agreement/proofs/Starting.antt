@@ -14,7 +14,7 @@ use Rattle.world.specs.Executions.{freshExecutions}
 use Rattle.world.specs.Hold.{freeEntry, freshHold, entryAt}
 use Rattle.world.specs.Delivered.{freshDelivered}
 use Rattle.world.specs.Fresh.{freshWorld}
-use Rattle.kept.proofs.Facts.{noTable, noEntries, noItems}
+use Rattle.world.specs.Boxes.{noTable, noEntries, noItems}
 use Rattle.kept.proofs.Start.{start-facts}
 use Rattle.agreement.proofs.Invariant.{Made, holdAt, doneAt, InvOf}
 use Rattle.agreement.proofs.Lists.{filled}

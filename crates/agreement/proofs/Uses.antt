@@ -18,7 +18,7 @@ use Rattle.world.specs.Executions.{executionAt, executionOf}
 use Rattle.world.specs.Hold.{freeEntry, entryAt, entryFreed}
 use Rattle.world.specs.Boxes.{within, holdOf}
 use Rattle.world.proofs.Seats.{seat-own}
-use Rattle.protocol.specs.Steps.{touch, boxesOf, putBack}
+use Rattle.protocol.specs.Steps.{touchFor, boxesOf, putBack}
 use Rattle.search.specs.Tests.{must}
 use Rattle.protocol.specs.declared.answer.Answer.the-variants.{BadServer, WrongSide, NoSuch}
 use Rattle.protocol.specs.declared.boxes.Boxes.{Boxes}
@@ -41,8 +41,8 @@ module _ (w : World) (f : FactsOf w) (v : InvOf w) (p : ℕ) (ok : Correct (w .r
   -- the entry is in use
   pub record Uses : Type 0 where
     pub within : place < holdPlaces
-    pub sender : taken .sender < servers
-    pub slot : taken .slot < w .requests .count
+    pub sender : taken .sending .sender < servers
+    pub slot : taken .sending .slot < w .requests .count
 
   pub uses : (stage : ℕ) → stage ≢ 0 → taken .stage ≡ stage → Uses
   uses stage d q =
@@ -50,31 +50,31 @@ module _ (w : World) (f : FactsOf w) (v : InvOf w) (p : ℕ) (ok : Correct (w .r
       let h = f .entries p s in
       let l = inside (λ (e : Entry). e .stage ≡ stage) (holdAt (w .holds) p .places) place holdPlaces freeEntry (h .size) q (λ z. d (sym z)) in
       let e = entry-out (w .roster) _ (w .numbered) p _ taken (λ z. d (sym q ∙ z)) (h .places place l) in
-      record { within = l; sender = named w f (taken .sender) (e .sender); slot = ltb-true (taken .slot) (w .requests .count) (e .slot) }
+      record { within = l; sender = named w f (taken .sending .sender) (e .sender); slot = ltb-true (taken .sending .slot) (w .requests .count) (e .slot) }
 
-  module _ (u : Uses) (k : ℕ) (q : executionOf (tableAt (w .executions) (taken .sender)) (taken .id) ≡ At k) where
+  module _ (u : Uses) (k : ℕ) (q : executionOf (tableAt (w .executions) (taken .sending .sender)) (taken .sending .id) ≡ At k) where
     -- the execution that it names
     abbrev pub its : Execution
-    its = made (w .executions) (taken .sender) k
+    its = made (w .executions) (taken .sending .sender) k
 
-    pub its-made : Made (w .executions) (taken .sender) k
-    its-made = record { seated = u .sender; used = found-made (tableAt (w .executions) (taken .sender)) (taken .id) k q }
+    pub its-made : Made (w .executions) (taken .sending .sender) k
+    its-made = record { seated = u .sender; used = found-made (tableAt (w .executions) (taken .sending .sender)) (taken .sending .id) k q }
 
-    pub its-id : its .id ≡ taken .id
+    pub its-id : its .id ≡ taken .sending .id
     its-id =
-        let t = tableAt (w .executions) (taken .sender) in
-        eqb-true (its .id) (taken .id) (and2 (ltb k (t .count)) (eqb (executionAt t k .id) (taken .id)) (found-at _ executionsMost k q) .1)
+        let t = tableAt (w .executions) (taken .sending .sender) in
+        eqb-true (its .id) (taken .sending .id) (and2 (ltb k (t .count)) (eqb (executionAt t k .id) (taken .sending .id)) (found-at _ executionsMost k q) .1)
 
     -- and no other
     pub its-only : {stage s j sl : ℕ} → Made (w .executions) s j → Of taken stage s (made (w .executions) s j .id) sl → made (w .executions) s j ≡ its
     its-only {s = s} {j = j} m o =
-        let m : Made (w .executions) (taken .sender) j = rw (o .sender) m in
-        let e : made (w .executions) (taken .sender) j .id ≡ its .id = rw (o .sender) (sym (o .id)) ∙ sym its-id in
-        let z = keys w f .ids (taken .sender) j k m its-made e in
+        let m : Made (w .executions) (taken .sending .sender) j = rw (o .sender) m in
+        let e : made (w .executions) (taken .sending .sender) j .id ≡ its .id = rw (o .sender) (sym (o .id)) ∙ sym its-id in
+        let z = keys w f .ids (taken .sending .sender) j k m its-made e in
         rw (← o .sender, z)
 
     -- it goes, where the server has called or the digest is another
-    pub dropped : (x y : ℕ) → ((taken .stage ≡ 1) × (has (its .called) p ≡ true)) ⊎ (sameDigest (requestAt (w .requests) (taken .slot) .digest) (its .digest) ≡ false)
+    pub dropped : (x y : ℕ) → ((taken .stage ≡ 1) × (has (its .called) p ≡ true)) ⊎ (sameDigest (requestAt (w .requests) (taken .sending .slot) .digest) (its .digest) ≡ false)
         → Moves w (putBack w (at p p x y) (withHold (boxesOf w (at p p x y)) (entryFreed (holdAt (w .holds) p) place)))
     dropped x y why =
         let s = seated w f p ok in
@@ -86,7 +86,7 @@ module _ (w : World) (f : FactsOf w) (v : InvOf w) (p : ℕ) (ok : Correct (w .r
         (λ (c : (taken .stage ≡ 1) × (has (its .called) p ≡ true)). inr (c .0, rw e (c .1)))
         (λ n.
         let c : Matches (w .requests) sl its = matches-on (ap (λ (x : Execution). x .digest) (sym e)) g in
-        apart (sameDigest (requestAt (w .requests) (taken .slot) .digest) (its .digest)) (rw (o .slot) (c .same)) n)))
+        apart (sameDigest (requestAt (w .requests) (taken .sending .slot) .digest) (its .digest)) (rw (o .slot) (c .same)) n)))
 
 -- a stored slot's own place
 pub slot-own : (w : World) → FactsOf w → (slot : ℕ) → slot < w .requests .count → within requestsMost slot ≡ slot
@@ -95,8 +95,8 @@ slot-own w f slot l = rw (lt-ltb slot requestsMost (omega (arith, f .requests .m
 -- the tests of both steps: 4, 5, and 6 for an entry at another stage
 pub entry-moves : (w : World) (f : FactsOf w) → InvOf w → (n : ℕ) → n ≢ 0 → (server place : ℕ) (next : Boxes → Ruling)
     → ((ok : Correct (w .roster) server) → entryAt (holdAt (w .holds) server) place .stage ≡ n
-    → (let e = entryAt (holdAt (w .holds) server) place in let t = at server server (e .sender) (e .slot) in Moves w (putBack w t (next (boxesOf w t) .boxes))))
-    → (let e = entryAt (holdOf w server) place in let t = touch server server (e .sender) (e .slot) in let b = boxesOf w t in
+    → (let s = entryAt (holdAt (w .holds) server) place .sending in let t = at server server (s .sender) (s .slot) in Moves w (putBack w t (next (boxesOf w t) .boxes))))
+    → (let e = entryAt (holdOf w server) place in let t = touchFor server (e .sending) in let b = boxesOf w t in
     Moves w
     (putBack w t
     (must (member (w .roster) server) (answered BadServer b)
@@ -105,7 +105,7 @@ pub entry-moves : (w : World) (f : FactsOf w) → InvOf w → (n : ℕ) → n �
     (next b))) .boxes)))
 entry-moves w f v n some server place next moves =
     let d = entryAt (holdOf w server) place in
-    let t = touch server server (d .sender) (d .slot) in
+    let t = touchFor server (d .sending) in
     let P : Ruling → Type 0 = λ s. Moves w (putBack w t (s .boxes)) in
     let same = stays w f t v in
     musts P (member (w .roster) server) _ _ same λ mine.
@@ -113,7 +113,7 @@ entry-moves w f v n some server place next moves =
     musts P (eqb (d .stage) n) _ _ same λ stage.
     let l = named w f server mine in
     let ok = and-both mine good in
-    let e = entryAt (holdAt (w .holds) server) place in
+    let s = entryAt (holdAt (w .holds) server) place .sending in
     let at-stage = rw (seat-own server l) at (eqb-true (d .stage) n stage) in
     let u = uses w f v server ok place n some at-stage in
-    rw (seat-own server l, seat-own (e .sender) (u .sender), slot-own w f (e .slot) (u .slot)) (moves ok at-stage)
+    rw (seat-own server l, seat-own (s .sender) (u .sender), slot-own w f (s .slot) (u .slot)) (moves ok at-stage)

@@ -13,14 +13,14 @@ use Rattle.search.specs.Search.{first}
 use Rattle.world.specs.declared.World.{World}
 use Rattle.world.specs.declared.request.Requests.{Requests}
 use Rattle.world.specs.declared.execution.Executions.{Executions}
-use Rattle.world.specs.declared.delivered.Item.{Item}
+use Rattle.world.specs.declared.sending.Sending.{Sending}
 use Rattle.world.specs.Sizes.{servers, requestsMost, executionsMost}
 use Rattle.world.specs.Masks.{has}
 use Rattle.world.specs.Roster.{correct}
 use Rattle.world.specs.Requests.{requestAt, sameDigest}
 use Rattle.world.specs.Executions.{executionAt, executionOf}
 use Rattle.world.specs.Hold.{holding}
-use Rattle.world.specs.Delivered.{unusedItem}
+use Rattle.world.specs.Sending.{noSending}
 use Rattle.world.specs.Boxes.{executionsOf, holdOf, deliveredOf}
 use Rattle.protocol.specs.Sound.{numberAt}
 use Rattle.protocol.specs.Quiet.{quiet}
@@ -44,38 +44,38 @@ abbrev pub slotOf : Requests → List ℕ → ℕ
 slotOf q digest = placeOf (first (λ (k : ℕ). ltb k (q .count) && sameDigest (requestAt q k .digest) digest) requestsMost)
 
 -- the sending that has a number, as a server would deliver it (`Agreed.numbers` below says that it is the one)
-unfoldable pub sendingOf : World → ℕ → Item
+unfoldable pub sendingOf : World → ℕ → Sending
 sendingOf w number =
     let i = numberedAt (w .executions) number in
     let x = executionAt (executionsOf w (i / executionsMost)) (i % executionsMost) in
     record { id = x .id; sender = i / executionsMost; slot = slotOf (w .requests) (x .digest) }
 
 -- "one list of sendings, one for each number": 1, 2, 3 to the last one given
-unfoldable pub sendingsTo : World → ℕ → List Item
+unfoldable pub sendingsTo : World → ℕ → List Sending
 sendingsTo w zero = []
 sendingsTo w (suc m) = sendingsTo w m ++ sendingOf w (m + 1) ∷ []
 
-abbrev pub sendings : World → List Item
+abbrev pub sendings : World → List Sending
 sendings w = sendingsTo w (w .numbered)
 
-abbrev pub sendingAt : World → ℕ → Item
-sendingAt w k = getD (sendings w) k unusedItem
+abbrev pub sendingAt : World → ℕ → Sending
+sendingAt w k = getD (sendings w) k noSending
 
--- the execution of an item's sender and id has the number, and the digest of the request in the item's slot
-pub record Numbered (w : World) (i : Item) (n : ℕ) : Type 0 where
+-- the execution of a sending's sender and id has the number, and the digest of the request in its slot
+pub record Numbered (w : World) (s : Sending) (n : ℕ) : Type 0 where
   pub place : ℕ
-  pub found : executionOf (executionsOf w (i .sender)) (i .id) ≡ At place
-  pub number : executionAt (executionsOf w (i .sender)) place .number ≡ n
-  pub stored : i .slot < w .requests .count
-  pub digest : sameDigest (requestAt (w .requests) (i .slot) .digest) (executionAt (executionsOf w (i .sender)) place .digest) ≡ true
+  pub found : executionOf (executionsOf w (s .sender)) (s .id) ≡ At place
+  pub number : executionAt (executionsOf w (s .sender)) place .number ≡ n
+  pub stored : s .slot < w .requests .count
+  pub digest : sameDigest (requestAt (w .requests) (s .slot) .digest) (executionAt (executionsOf w (s .sender)) place .digest) ≡ true
 
 -- what a server has delivered
-abbrev pub deliveredBy : World → ℕ → List Item
+abbrev pub deliveredBy : World → ℕ → List Sending
 deliveredBy w server = take (deliveredOf w server .count) (deliveredOf w server .items)
 
 -- one list is a beginning of another
-pub record Begins (l all : List Item) : Type 0 where
-  pub rest : List Item
+pub record Begins (l all : List Sending) : Type 0 where
+  pub rest : List Sending
   pub whole : l ++ rest ≡ all
 
 -- what holds of a world
@@ -96,11 +96,11 @@ through go w [] = w
 through go w (a ∷ l) = through go (go w a) l
 
 -- some correct server holds the sending, and its seal on the request is good
-pub record Vouched (w : World) (i : Item) : Type 0 where
+pub record Vouched (w : World) (s : Sending) : Type 0 where
   pub server : ℕ
   pub good : correct (w .roster) server ≡ true
-  pub seal : has (requestAt (w .requests) (i .slot) .seals) server ≡ true
-  pub held : holding (holdOf w server) (i .sender) (i .id) (i .slot) ≡ true
+  pub seal : has (requestAt (w .requests) (s .slot) .seals) server ≡ true
+  pub held : holding (holdOf w server) s ≡ true
 
 -- "held in time": one step of the row gives the number, and the sending is vouched for in the world that this step leaves
 pub record InTime {A : Type 0} (go : World → A → World) (w : World) (l : List A) (number : ℕ) : Type 0 where

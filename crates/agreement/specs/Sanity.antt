@@ -5,15 +5,15 @@ use mathlib.Core.Logic.{_≢_}
 use mathlib.Core.Bool.{true}
 use lib.ListN.{length, getD}
 use Rattle.world.specs.declared.World.{World}
-use Rattle.world.specs.declared.delivered.Item.{Item}
+use Rattle.world.specs.declared.sending.Sending.{Sending}
 use Rattle.world.specs.Roster.{correct}
-use Rattle.world.specs.Delivered.{unusedItem}
+use Rattle.world.specs.Sending.{noSending}
 use Rattle.protocol.specs.Quiet.{quiet}
 use Rattle.agreement.specs.Agreement.{deliveredBy, Agreed}
 
 -- the item that a server delivered at a place of its list
-abbrev pub deliveredAt : World → ℕ → ℕ → Item
-deliveredAt w server k = getD (deliveredBy w server) k unusedItem
+abbrev pub deliveredAt : World → ℕ → ℕ → Sending
+deliveredAt w server k = getD (deliveredBy w server) k noSending
 
 -- two correct servers delivered in different order: somewhere their lists differ
 pub record OrdersDiffer (w : World) : Type 0 where

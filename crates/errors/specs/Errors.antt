@@ -12,6 +12,7 @@ use Rattle.search.specs.Search.{isFound}
 use Rattle.search.specs.Tests.{must}
 use Rattle.world.specs.declared.World.{World}
 use Rattle.world.specs.declared.roster.Roster.{Roster}
+use Rattle.world.specs.declared.sending.Sending.{Sending}
 use Rattle.world.specs.Masks.{has}
 use Rattle.world.specs.Roster.{member, faulty}
 use Rattle.world.specs.Requests.{sameDigest}
@@ -25,7 +26,7 @@ use Rattle.protocol.specs.declared.boxes.Boxes.{Boxes}
 use Rattle.protocol.specs.declared.boxes.Ruling.{Ruling}
 use Rattle.protocol.specs.Rules.{answered, withHold, withOutgoing, recorded, raised, droppedAt, requestFrom, arriveOf, proposeTo, proposeOf}
 use Rattle.format.specs.Records.{Asked, Request, Multicast, Arrive, Propose, Settle, Deliver, ForgePacket, ForgeSend, ForgeReceive}
-use Rattle.protocol.specs.Steps.{touch, on}
+use Rattle.protocol.specs.Steps.{touch, touchFor, on}
 use Rattle.agreement.specs.Agreement.{through, Demand, byRecord}
 use Rattle.agreement.specs.Sanity.{LeftBehind}
 use Rattle.agreement.proofs.Members.{Good}
@@ -54,12 +55,13 @@ droppingUnsealed r server place k b =
 unfoldable pub keepingOrigin : Roster → ℕ → ℕ → Boxes → Ruling
 keepingOrigin r origin place b =
     let p = packetAt (b .outgoing) place in
+    let s : Sending = record { id = p .sending .id; sender = origin; slot = p .sending .slot } in
     let rest = withOutgoing b (packetFreed (b .outgoing) place) in
     must (member r origin) (answered BadServer b)
     (must (p .there) (answered NoSuch b)
-    (must (not (faulty r (p .to) || holding (b .hold) (p .sender) (p .id) (p .slot))) (answered Dropped rest)
+    (must (not (faulty r (p .to) || holding (b .hold) (p .sending))) (answered Dropped rest)
     (must (isFound (freeHold (b .hold))) (answered NoRoom b)
-    (answered Done (withHold rest (entryAdded (b .hold) (entryOf 1 origin (p .id) (p .slot) 0)))))))
+    (answered Done (withHold rest (entryAdded (b .hold) (entryOf 1 s 0)))))))
 
 -- propose with its last tests left open: 4, 5, 6 and 2 as they are
 module _ (last : Roster → ℕ → ℕ → ℕ → Boxes → Ruling) where
@@ -73,7 +75,7 @@ module _ (last : Roster → ℕ → ℕ → ℕ → Boxes → Ruling) where
       must (member r server) (answered BadServer b)
       (must (not (faulty r server)) (answered WrongSide b)
       (must (eqb (e .stage) 1) (answered NoSuch b)
-      (proposeFoundBy r server place b (executionOf (b .executions) (e .id)))))
+      (proposeFoundBy r server place b (executionOf (b .executions) (e .sending .id)))))
 
 -- all steps, with the rules for arrive and propose left open
 module _ (arrive propose : Roster → ℕ → ℕ → Boxes → Ruling) where
@@ -81,7 +83,7 @@ module _ (arrive propose : Roster → ℕ → ℕ → Boxes → Ruling) where
   stepBy w (Arrive origin place) =
       on w (touch origin (packetAt (outgoingOf w origin) place .to) origin 0) (arrive (w .roster) origin place) .world
   stepBy w (Propose server place) =
-      on w (touch server server (entryAt (holdOf w server) place .sender) (entryAt (holdOf w server) place .slot)) (propose (w .roster) server place) .world
+      on w (touchFor server (entryAt (holdOf w server) place .sending)) (propose (w .roster) server place) .world
   stepBy w (Request client serial seals command) = byRecord w (Request client serial seals command)
   stepBy w (Multicast server slot) = byRecord w (Multicast server slot)
   stepBy w (Settle server place) = byRecord w (Settle server place)

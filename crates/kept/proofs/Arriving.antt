@@ -31,8 +31,8 @@ module _ {r : Roster} {stored m : ℕ} {ts : List Executions} {s h x : ℕ} {b :
       let l = inside (λ (p : Packet). p .there ≡ true) (b .outgoing .places) place outgoingPlaces freePacket (f .packets .size) there (λ z. apart false z refl) in
       let k = packet-out r stored s p there (f .packets .places place l) in
       let rest = with-outgoing f _ (packet-packetFreed (f .packets) place l) in
-      musts P (not (faulty r (p .to) || holding (b .hold) (p .sender) (p .id) (p .slot))) _ _ rest λ _.
+      musts P (not (faulty r (p .to) || holding (b .hold) (p .sending))) _ _ rest λ _.
       musts P (isFound (freeHold (b .hold))) _ _ f λ _.
       with-hold rest _
-      (entry-kept (f .entries) (entryOf 1 (p .sender) (p .id) (p .slot) 0)
-      (first-entry r stored (b .numbered) h _ (rw (at (k .1)) (k .1)) (p .sender) (p .id) (p .slot) (k .2)))
+      (entry-kept (f .entries) (entryOf 1 (p .sending) 0)
+      (first-entry r stored (b .numbered) h _ (rw (at (k .1)) (k .1)) (p .sending) (k .2)))

@@ -2,7 +2,7 @@
 use mathlib.Core.Path.{_≡_}
 use mathlib.Core.Logic.{_≢_}
 use mathlib.Core.Bool.{true, false, _||_}
-use mathlib.Core.List.{List, []}
+use mathlib.Core.List.{List}
 use Prim.Native.Nat.{ℕ, _+_, _*_, _/_, _%_, _<_, _≤_}
 use native.Mathlib.Omega.{arith}
 use lib.Count.{ones}
@@ -27,7 +27,7 @@ use Rattle.world.specs.Requests.{requestAt}
 use Rattle.world.specs.Executions.{executionAt}
 use Rattle.world.specs.Outgoing.{packetAt}
 use Rattle.world.specs.Hold.{entryAt}
-use Rattle.world.specs.Boxes.{executionsOf, outgoingOf, holdOf, deliveredOf, itemAt}
+use Rattle.world.specs.Boxes.{noTable, noPackets, noEntries, noItems, executionsOf, outgoingOf, holdOf, deliveredOf, itemAt}
 use Rattle.search.proofs.Lists.{getD-out}
 use Rattle.protocol.specs.Zeros.{zeroBytes}
 use Rattle.protocol.specs.Names.{names, tableOf, ownExecution}
@@ -38,19 +38,6 @@ use Rattle.kept.specs.Kept.{Shaped}
 use Rattle.search.proofs.Booleans.{either, test, same?, less?, and2, and3, and4, and5, and-both, implies-in, implies-out}
 use Rattle.search.proofs.Every.{every-at, every-all}
 use Rattle.kept.proofs.Counts.{Numbers}
-
--- what reads past the boxes give
-abbrev pub noTable : Executions
-noTable = record { table = []; count = 0 }
-
-abbrev pub noPackets : Outgoing
-noPackets = record { places = [] }
-
-abbrev pub noEntries : Hold
-noEntries = record { places = [] }
-
-abbrev pub noItems : Delivered
-noItems = record { items = []; count = 0 }
 
 -- a list with one element changed: the new one at its place, the old ones elsewhere
 pub set-cases : {A : Type 0} (P : A → Type 0) (l : List A) (i j : ℕ) (a d : A) → i < length l → (j ≡ i → P a) → (j ≢ i → P (getD l j d)) → P (getD (set l i a) j d)
@@ -175,7 +162,7 @@ packets-in s = every-all _ _ (s .places)
 -- entries
 pub record Entries (r : Roster) (stored m : ℕ) (ts : List Executions) (x : ℕ) (h : Hold) : Type 0 where
   pub size : length (h .places) ≡ holdPlaces
-  pub places : (k : ℕ) → k < holdPlaces → entrySound r stored m x (tableOf ts (entryAt h k .sender)) (entryAt h k) ≡ true
+  pub places : (k : ℕ) → k < holdPlaces → entrySound r stored m x (tableOf ts (entryAt h k .sending .sender)) (entryAt h k) ≡ true
 
 entries-out : (r : Roster) (stored m : ℕ) (ts : List Executions) (x : ℕ) (h : Hold) → length (h .places) ≡ holdPlaces → holdSound r stored m ts x h ≡ true
     → Entries r stored m ts x h
@@ -190,25 +177,25 @@ entries-in s = every-all _ _ (s .places)
 pub record Held (r : Roster) (stored m x : ℕ) (t : Executions) (e : Entry) : Type 0 where
   pub stage : e .stage ≤ 3
   pub holder : member r x ≡ true
-  pub sender : member r (e .sender) ≡ true
-  pub slot : ltb (e .slot) stored ≡ true
-  pub named : 1 < e .stage → isFound (ownExecution t e) ≡ true
+  pub sender : member r (e .sending .sender) ≡ true
+  pub slot : ltb (e .sending .slot) stored ≡ true
+  pub named : 1 < e .stage → isFound (ownExecution t (e .sending)) ≡ true
   pub number : stageSound m e ≡ true
 
 pub entry-out : (r : Roster) (stored m x : ℕ) (t : Executions) (e : Entry) → e .stage ≢ 0 → entrySound r stored m x t e ≡ true → Held r stored m x t e
 unfolding entrySound
 entry-out r stored m x t e d p =
     let a =
-    and5 (leb (e .stage) 3) (member r x) (names r stored (e .sender) (e .slot)) (implies (ltb 1 (e .stage)) (isFound (ownExecution t e))) (stageSound m e)
+    and5 (leb (e .stage) 3) (member r x) (names r stored (e .sending)) (implies (ltb 1 (e .stage)) (isFound (ownExecution t (e .sending)))) (stageSound m e)
     (rw (ne-eqb (e .stage) 0 d) at p)
     in
-    let b = and2 (member r (e .sender)) (ltb (e .slot) stored) (a .2) in
+    let b = and2 (member r (e .sending .sender)) (ltb (e .sending .slot) stored) (a .2) in
     record {
       stage = leb-true (e .stage) 3 (a .0);
       holder = a .1;
       sender = b .0;
       slot = b .1;
-      named = λ h. implies-out (ltb 1 (e .stage)) (isFound (ownExecution t e)) (a .3) (lt-ltb 1 (e .stage) h);
+      named = λ h. implies-out (ltb 1 (e .stage)) (isFound (ownExecution t (e .sending))) (a .3) (lt-ltb 1 (e .stage) h);
       number = a .4;
     }
 
@@ -219,7 +206,7 @@ entry-in r stored m x t e d p =
     (and-both
     (and-both
     (and-both (and-both (le-leb (e .stage) 3 (p .stage)) (p .holder)) (and-both (p .sender) (p .slot)))
-    (implies-in (ltb 1 (e .stage)) (isFound (ownExecution t e)) (λ h. p .named (ltb-true 1 (e .stage) h))))
+    (implies-in (ltb 1 (e .stage)) (isFound (ownExecution t (e .sending))) (λ h. p .named (ltb-true 1 (e .stage) h))))
     (p .number))
 
 -- delivered items

@@ -7,7 +7,7 @@ use lib.Dec.{ltb}
 use Rattle.search.specs.Search.{isFound}
 use Rattle.world.specs.declared.roster.Roster.{Roster}
 use Rattle.world.specs.declared.execution.Executions.{Executions}
-use Rattle.world.specs.declared.outgoing.Sending.{Sending}
+use Rattle.world.specs.declared.sending.Sending.{Sending}
 use Rattle.world.specs.Roster.{member, faulty}
 use Rattle.world.specs.Outgoing.{freeOutgoing, packetFor}
 use Rattle.protocol.specs.declared.boxes.Boxes.{Boxes}

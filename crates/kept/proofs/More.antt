@@ -13,11 +13,11 @@ use Rattle.search.specs.Search.{isFound}
 use Rattle.world.specs.declared.roster.Roster.{Roster}
 use Rattle.world.specs.declared.execution.Execution.{Execution}
 use Rattle.world.specs.declared.execution.Executions.{Executions}
+use Rattle.world.specs.declared.sending.Sending.{Sending}
 use Rattle.world.specs.declared.outgoing.Outgoing.{Outgoing}
 use Rattle.world.specs.declared.outgoing.Packet.{Packet}
 use Rattle.world.specs.declared.hold.Entry.{Entry}
 use Rattle.world.specs.declared.hold.Hold.{Hold}
-use Rattle.world.specs.declared.delivered.Item.{Item}
 use Rattle.world.specs.declared.delivered.Delivered.{Delivered}
 use Rattle.world.specs.Sizes.{servers}
 use Rattle.world.specs.Roster.{member, threshold}
@@ -30,6 +30,11 @@ use Rattle.kept.proofs.Facts.{Table, Made, Packets, Entries, Items, pla
 
 slot-more : (slot stored more : ℕ) → stored ≤ more → ltb slot stored ≡ true → ltb slot more ≡ true
 slot-more slot stored more h e = lt-ltb slot more (omega (arith, ltb-true slot stored e))
+
+names-more : (r : Roster) (stored more : ℕ) (s : Sending) → stored ≤ more → names r stored s ≡ true → names r more s ≡ true
+names-more r stored more s h e =
+    let a = and2 (member r (s .sender)) (ltb (s .slot) stored) e in
+    and-both (a .0) (slot-more (s .slot) stored more h (a .1))
 
 pub order-more : (r : Roster) (m n : ℕ) (x : Execution) → m ≤ n → orderSound r m x ≡ true → orderSound r n x ≡ true
 unfolding orderSound
@@ -67,9 +72,8 @@ unfolding packetSound
 packet-more r stored more x p h e =
     test (p .there)
     (λ z.
-    let a = and3 (member r x) (member r (p .to)) (names r stored (p .sender) (p .slot)) (rw z at e) in
-    let b = and2 (member r (p .sender)) (ltb (p .slot) stored) (a .2) in
-    rw z (and-both (and-both (a .0) (a .1)) (and-both (b .0) (slot-more (p .slot) stored more h (b .1)))))
+    let a = and3 (member r x) (member r (p .to)) (names r stored (p .sending)) (rw z at e) in
+    rw z (and-both (and-both (a .0) (a .1)) (names-more r stored more (p .sending) h (a .2))))
     (λ z. rw z (rw z at e))
 
 pub packets-more : {r : Roster} {stored more x : ℕ} {o : Outgoing} → stored ≤ more → Packets r stored x o → Packets r more x o
@@ -107,24 +111,21 @@ entry-more r stored more m n x t u e h k g p =
       stage = a .stage;
       holder = a .holder;
       sender = a .sender;
-      slot = slot-more (e .slot) stored more h (a .slot);
-      named = λ l. own-by (ltb (e .sender) servers) (executionOf t (e .id)) (executionOf u (e .id)) (g (e .id)) (a .named l);
+      slot = slot-more (e .sending .slot) stored more h (a .slot);
+      named = λ l.
+          own-by (ltb (e .sending .sender) servers) (executionOf t (e .sending .id)) (executionOf u (e .sending .id)) (g (e .sending .id)) (a .named l);
       number = stage-more m n e k (a .number);
     }))
 
 pub entries-more : {r : Roster} {stored more m n : ℕ} {ts us : List Executions} {x : ℕ} {h : Hold} → stored ≤ more → m ≤ n
     → ((s : ℕ) → Grows (tableOf ts s) (tableOf us s)) → Entries r stored m ts x h → Entries r more n us x h
 entries-more {r} {stored} {more} {m} {n} {x = x} {h = h} p q g f =
-    record { size = f .size; places = λ k l. entry-more r stored more m n x _ _ (entryAt h k) p q (g (entryAt h k .sender)) (f .places k l) }
+    record { size = f .size; places = λ k l. entry-more r stored more m n x _ _ (entryAt h k) p q (g (entryAt h k .sending .sender)) (f .places k l) }
 
-item-more : (r : Roster) (stored more c k : ℕ) (i : Item) → stored ≤ more → itemSound r stored c k i ≡ true → itemSound r more c k i ≡ true
+item-more : (r : Roster) (stored more c k : ℕ) (s : Sending) → stored ≤ more → itemSound r stored c k s ≡ true → itemSound r more c k s ≡ true
 unfolding itemSound
-item-more r stored more c k i h e =
-    test (ltb k c)
-    (λ z.
-    let a = and2 (member r (i .sender)) (ltb (i .slot) stored) (rw z at e) in
-    rw z (and-both (a .0) (slot-more (i .slot) stored more h (a .1))))
-    (λ z. rw z (rw z at e))
+item-more r stored more c k s h e =
+    test (ltb k c) (λ z. rw z (names-more r stored more s h (rw z at e))) (λ z. rw z (rw z at e))
 
 pub items-more : {r : Roster} {stored more m n x : ℕ} {d : Delivered} → stored ≤ more → m ≤ n → Items r stored m x d → Items r more n x d
 items-more {r} {stored} {more} {d = d} p q f =

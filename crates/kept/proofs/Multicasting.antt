@@ -17,7 +17,7 @@ use Rattle.world.specs.Executions.{executionAt}
 use Rattle.world.specs.Hold.{entryOf}
 use Rattle.protocol.specs.declared.boxes.Boxes.{Boxes}
 use Rattle.protocol.specs.declared.boxes.Ruling.{Ruling}
-use Rattle.protocol.specs.Rules.{made, multicastDone, roomy, multicastOf}
+use Rattle.protocol.specs.Rules.{made, ownSending, multicastDone, roomy, multicastOf}
 use Rattle.search.proofs.Booleans.{musts, and-both}
 use Rattle.kept.proofs.Facts.{Table, place-out}
 use Rattle.kept.proofs.Places.{second-entry, entry-kept, packets-sent}
@@ -38,16 +38,17 @@ module _ {r : Roster} {stored m : ℕ} {ts : List Executions} (all : length ts �
       → b .executions .count < executionsMost → Fits r stored m ts s s s (multicastDone r s slot b)
   unfolding multicastDone made
   multicast-fits {s} slot {b} seated f mine good there room =
-      let id = b .executions .count + 1 in
-      let g = made-fits f all seated mine id (b .request .digest) room (new-id (f .table) good) (λ _. refl) in
-      let found = made-found f all seated mine id (b .request .digest) room in
+      let o = ownSending s slot b in
+      let g = made-fits f all seated mine (o .id) (b .request .digest) room (new-id (f .table) good) (λ _. refl) in
+      let found = made-found f all seated mine (o .id) (b .request .digest) room in
       let names = and-both mine there in
       let h =
       with-hold g _
-      (entry-kept (g .entries) (entryOf 2 s id slot 0)
-      (second-entry r stored _ s _ mine s id slot names (own-found ts s (made r s id (b .request .digest) b .executions) 2 s id slot 0 all refl seated found)))
+      (entry-kept (g .entries) (entryOf 2 o 0)
+      (second-entry r stored _ s _ mine o names
+      (own-found ts s (made r s (o .id) (b .request .digest) b .executions) o all refl seated found)))
       in
-      with-outgoing h _ (packets-sent mine (record { id = id; sender = s; slot = slot }) names nobody s (f .packets))
+      with-outgoing h _ (packets-sent mine o names nobody s (f .packets))
 
   pub multicast-keeps : {s : ℕ} {b : Boxes} → s < servers → Fits r stored m ts s s s b → (server slot : ℕ) → (member r server ≡ true → s ≡ server)
       → Keeps r stored m ts s s s (multicastOf r server slot b)

@@ -19,6 +19,7 @@ use Rattle.world.specs.declared.execution.Ordered.{Ordered}
 use Rattle.world.specs.Sizes.{servers, executionsMost}
 use Rattle.world.specs.Roster.{member, correct}
 use Rattle.world.specs.Executions.{noExecution, executionAt, executionOf, opened, called, ordered}
+use Rattle.world.specs.Boxes.{noTable}
 use Rattle.protocol.specs.Sound.{orderSound, placeSound, newId, numberAt}
 use Rattle.world.proofs.Seats.{seat-own}
 use Rattle.protocol.specs.declared.boxes.Boxes.{Boxes}
@@ -26,7 +27,7 @@ use Rattle.protocol.specs.Rules.{withExecutions, made, recorded}
 use Rattle.search.proofs.Booleans.{either, same?, less?, sides-more, and2, or-left, not-in, not-out, and-both}
 use Rattle.search.proofs.Every.{found-at, found-where, any-in, any-none, every-at, every-all}
 use Rattle.kept.proofs.Counts.{Numbers, numbers-same, numbers-more}
-use Rattle.kept.proofs.Facts.{noTable, set-cases, Table, Made, place-in, place-out, place-unused}
+use Rattle.kept.proofs.Facts.{set-cases, Table, Made, place-in, place-out, place-unused}
 use Rattle.kept.proofs.More.{Grows, place-more, entries-more, items-more}
 use Rattle.kept.proofs.Putting.{Fits, tables-grow}
 use Rattle.kept.proofs.Masking.{Orders, orders, ordered-id, opened-masks, called-masks}

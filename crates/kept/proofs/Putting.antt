@@ -13,7 +13,7 @@ use Rattle.world.specs.declared.outgoing.Outgoing.{Outgoing}
 use Rattle.world.specs.declared.hold.Hold.{Hold}
 use Rattle.world.specs.declared.delivered.Delivered.{Delivered}
 use Rattle.world.specs.Sizes.{servers, executionsMost}
-use Rattle.world.specs.Boxes.{seat}
+use Rattle.world.specs.Boxes.{seat, noTable, noPackets, noEntries, noItems}
 use Rattle.protocol.specs.Names.{tableOf}
 use Rattle.protocol.specs.Sound.{numberAt}
 use Rattle.protocol.specs.declared.boxes.Boxes.{Boxes}
@@ -22,7 +22,7 @@ use Rattle.protocol.specs.Rules.{withHold, withOutgoing, withDelivered}
 use Rattle.protocol.specs.declared.boxes.Touch.{Touch}
 use Rattle.protocol.specs.Steps.{boxesOf, putBack}
 use Rattle.kept.proofs.Counts.{Numbers}
-use Rattle.kept.proofs.Facts.{noTable, noPackets, noEntries, noItems, set-cases, Table, Packets, Entries, Items, FactsOf}
+use Rattle.kept.proofs.Facts.{set-cases, Table, Packets, Entries, Items, FactsOf}
 use Rattle.kept.proofs.More.{Grows, table-more, entries-more, items-more}
 
 -- boxes that may stand in the place of those of a server, a holder and a sender, in a world of these tables

@@ -19,7 +19,7 @@ use Rattle.world.specs.Requests.{noRequest, requestAt, requestBytes, sameDigest
 use Rattle.protocol.specs.declared.boxes.Requested.{Requested}
 use Rattle.protocol.specs.Rules.{requestFrom, requestOf}
 use Rattle.protocol.specs.Sound.{storedSound, slotSound, newDigest}
-use Rattle.protocol.specs.Steps.{withRequests}
+use Rattle.world.specs.Boxes.{withRequests}
 use Rattle.search.proofs.Booleans.{sides-more, musts, and-both, not-in, not-out}
 use Rattle.search.proofs.Every.{any-none, every-at, every-all}
 use Rattle.kept.proofs.Facts.{set-cases, Stored, FactsOf}

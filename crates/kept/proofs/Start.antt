@@ -15,12 +15,14 @@ use Rattle.world.specs.Requests.{freshRequests, unusedRequest, noRequest}
 use Rattle.world.specs.Executions.{freshExecutions, unusedExecution, noExecution}
 use Rattle.world.specs.Outgoing.{freshOutgoing, freePacket}
 use Rattle.world.specs.Hold.{freshHold, freeEntry}
-use Rattle.world.specs.Delivered.{freshDelivered, unusedItem}
+use Rattle.world.specs.Sending.{noSending}
+use Rattle.world.specs.Delivered.{freshDelivered}
 use Rattle.world.specs.Fresh.{freshWorld}
+use Rattle.world.specs.Boxes.{noTable, noPackets, noEntries, noItems}
 use Rattle.protocol.specs.Zeros.{zeroBytes}
 use Rattle.protocol.specs.Sound.{slotSound, placeSound, numbersSound, packetSound, entrySound, itemSound}
 use Rattle.search.proofs.Booleans.{or-right}
-use Rattle.kept.proofs.Facts.{noTable, noPackets, noEntries, noItems, Stored, Table, Packets, Entries, Items, FactsOf, numbers-out}
+use Rattle.kept.proofs.Facts.{Stored, Table, Packets, Entries, Items, FactsOf, numbers-out}
 
 module _ (r : Roster) where
   fresh-stored : Stored r freshRequests
@@ -59,10 +61,10 @@ module _ (r : Roster) where
   unfolding freshDelivered itemSound
   fresh-items s =
       record {
-        size = length-replicate deliveredMost unusedItem;
+        size = length-replicate deliveredMost noSending;
         most = omega arith;
         theirs = or-right (member r s) true refl;
-        places = λ k h. rw (getD-replicate deliveredMost k unusedItem unusedItem h, le-ltb k 0 (omega arith));
+        places = λ k h. rw (getD-replicate deliveredMost k noSending noSending h, le-ltb k 0 (omega arith));
       }
 
   fresh-tables : (s : ℕ) → s < servers → Table r 0 s (getD (replicate servers freshExecutions) s noTable)

@@ -73,13 +73,13 @@ step-facts w (Arrive origin place) f =
     kept-by w f origin to origin 0 _
     (arrive-keeps (fits w f origin to origin 0) origin place (at w f to))
 step-facts w (Propose server place) f =
-    let e = entryAt (holdOf w server) place in
-    kept-by w f server server (e .sender) (e .slot) _
-    (propose-keeps (few-servers (w .roster) (f .roster)) (f .all-tables) (fits w f server server (e .sender) (e .slot)) place refl server (here w f server) (at w f server))
+    let s = entryAt (holdOf w server) place .sending in
+    kept-by w f server server (s .sender) (s .slot) _
+    (propose-keeps (few-servers (w .roster) (f .roster)) (f .all-tables) (fits w f server server (s .sender) (s .slot)) place refl server (here w f server) (at w f server))
 step-facts w (Settle server place) f =
-    let e = entryAt (holdOf w server) place in
-    kept-by w f server server (e .sender) (e .slot) _
-    (settle-keeps (few-servers (w .roster) (f .roster)) (f .all-tables) (fits w f server server (e .sender) (e .slot)) place refl server)
+    let s = entryAt (holdOf w server) place .sending in
+    kept-by w f server server (s .sender) (s .slot) _
+    (settle-keeps (few-servers (w .roster) (f .roster)) (f .all-tables) (fits w f server server (s .sender) (s .slot)) place refl server)
 step-facts w (Deliver server) f =
     kept-by w f server server server 0 _
     (deliver-keeps (fits w f server server server 0) server (at w f server))

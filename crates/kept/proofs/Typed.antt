@@ -1,9 +1,8 @@
 -- Every world that the code holds is shaped: what owning one tells. Assumes nothing.
-use mathlib.Core.Path.{_≡_, sym, _∙_}
 use mathlib.Core.List.{List, [], _∷_, map}
 use Prim.Native.Nat.{ℕ, zero, suc, _<_}
 use native.Mathlib.Omega.{arith}
-use lib.ListN.{length, getD, length-map}
+use lib.ListN.{length, getD}
 use mir.Val.{Val}
 use base.Fml.{Fml}
 use denote.Shadow.{shadow}
@@ -12,6 +11,7 @@ use denote.RattleType.{owns, Valss}
 use denote.Struct.Declared.{shape}
 use Rattle.world.specs.declared.World.{World}
 use Rattle.world.specs.Sizes.{servers, requestsMost, executionsMost}
+use Rattle.world.specs.Boxes.{noTable, noPackets, noEntries, noItems}
 use Rattle.world.proofs.World as world-of
 use Rattle.world.proofs.request.Request as request-of
 use Rattle.world.proofs.execution.Executions as executions-of
@@ -19,10 +19,9 @@ use Rattle.world.proofs.execution.Execution as execution-of
 use Rattle.world.proofs.outgoing.Outgoing as outgoing-of
 use Rattle.world.proofs.hold.Hold as hold-of
 use Rattle.world.proofs.delivered.Delivered as delivered-of
-use Rattle.world.proofs.Typed.{outgoing-places, hold-places, delivered-items}
+use Rattle.world.proofs.Typed.{mapped, outgoing-places, hold-places, delivered-items}
 use Rattle.world.proofs.Seats.{seat-own}
 use Rattle.kept.specs.Kept.{Shaped}
-use Rattle.kept.proofs.Facts.{noTable, noPackets, noEntries, noItems}
 
 -- the relation of one element, from that of each
 each-at : {X d : Type 0} (to : X → d) (f : d → List Val → Fml) (xs : List X) (us : List Val) (i : ℕ) (x₀ : X) → i < length xs
@@ -31,10 +30,6 @@ each-at to f [] us i x₀ p s = absurd (omega arith)
 each-at to f (x ∷ xs) [] i x₀ p s = absurd s
 each-at to f (x ∷ xs) (u ∷ us) zero x₀ p s = (u, s .0)
 each-at to f (x ∷ xs) (u ∷ us) (suc i) x₀ p s = each-at to f xs us i x₀ (omega arith) (s .1)
-
--- a list is as long as its image
-mapped : {X d : Type 0} (to : X → d) (xs : List X) (n : ℕ) → length (map to xs) ≡ n → length xs ≡ n
-mapped to xs n e = sym (length-map xs to) ∙ e
 
 pub typed-shaped : (w : World) (vs : Valss (shape world-of.the-type .fields)) → shadow (owns (shape world-of.the-type .fields) (world-of.the-type .to w) vs) → Shaped w
 typed-shaped w vs g =

@@ -6,9 +6,10 @@ use lib.Dec.{ltb}
 use lib.ListN.{getD, take}
 use Rattle.world.specs.declared.World.{World}
 use Rattle.world.specs.declared.roster.Roster.{Roster}
-use Rattle.world.specs.declared.delivered.Item.{Item}
+use Rattle.world.specs.declared.sending.Sending.{Sending}
 use Rattle.world.specs.declared.delivered.Delivered.{Delivered}
 use Rattle.world.specs.Roster.{faulty, faults, threshold}
+use Rattle.world.specs.Boxes.{noItems}
 use Rattle.format.specs.declared.verdict.Verdict.{Verdict}
 use Rattle.format.specs.declared.verdict.Verdict.the-variants.{Accepted, Refused}
 use Rattle.format.specs.Records.{asked}
@@ -79,12 +80,12 @@ stepLines k [] = []
 stepLines k (a ∷ l) = stepLine k a ++ stepLines (k + 1) l
 
 -- "items SENDER.ID.SLOT", a blank ahead of each
-abbrev pub itemText : Item → List ℕ
-itemText i = blank ∷ (decimal (i .sender) ++ dot ∷ (decimal (i .id) ++ dot ∷ decimal (i .slot)))
+abbrev pub itemText : Sending → List ℕ
+itemText s = blank ∷ (decimal (s .sender) ++ dot ∷ (decimal (s .id) ++ dot ∷ decimal (s .slot)))
 
-unfoldable pub itemTexts : List Item → List ℕ
+unfoldable pub itemTexts : List Sending → List ℕ
 itemTexts [] = []
-itemTexts (i ∷ l) = itemText i ++ itemTexts l
+itemTexts (s ∷ l) = itemText s ++ itemTexts l
 
 -- "A server line has the server, then faulty, or its delivered count and items"
 abbrev pub deliveredText : Delivered → List ℕ
@@ -96,7 +97,7 @@ serverLine r server d = serverWord ++ (decimal server ++ cond (faulty r server) 
 -- "one server line each, ascending": those of the first n
 unfoldable pub serverLines : World → ℕ → List ℕ
 serverLines w zero = []
-serverLines w (suc n) = serverLines w n ++ serverLine (w .roster) n (getD (w .delivered) n (record { items = []; count = 0 }))
+serverLines w (suc n) = serverLines w n ++ serverLine (w .roster) n (getD (w .delivered) n noItems)
 
 -- "numbered M"
 abbrev pub numberedLine : ℕ → List ℕ

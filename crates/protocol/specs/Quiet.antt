@@ -35,12 +35,12 @@ isNumbered t Nothing = false
 -- an entry with which its server could go on, whose next number is given
 unfoldable pub stirs : Executions → ℕ → Entry → Bool
 stirs t next e =
-    (eqb (e .stage) 1 && isFound (ownExecution t e)) || (eqb (e .stage) 2 && isNumbered t (ownExecution t e))
+    (eqb (e .stage) 1 && isFound (ownExecution t (e .sending))) || (eqb (e .stage) 2 && isNumbered t (ownExecution t (e .sending)))
     || (eqb (e .stage) 3 && eqb (e .number) next)
 
 -- no entry of a server, whose next number is given, with which it could go on
 unfoldable pub holdQuiet : List Executions → ℕ → Hold → Bool
-holdQuiet ts next h = every (λ (k : ℕ). not (stirs (tableOf ts (entryAt h k .sender)) next (entryAt h k))) holdPlaces
+holdQuiet ts next h = every (λ (k : ℕ). not (stirs (tableOf ts (entryAt h k .sending .sender)) next (entryAt h k))) holdPlaces
 
 -- the boxes of one server
 unfoldable pub serverQuiet : World → ℕ → Bool

@@ -4,7 +4,7 @@ use Prim.Native.Nat.{ℕ, _+_}
 use mathlib.Core.Bool.{Bool, not, _&&_, _||_}
 use mathlib.Core.List.{List}
 use lib.Dec.{eqb, ltb, leb}
-use lib.ListN.{set, replicate}
+use lib.ListN.{replicate}
 use Rattle.search.specs.declared.Found.{Found}
 use Rattle.search.specs.declared.Found.the-variants.{At, Nothing}
 use Rattle.search.specs.Search.{isFound}
@@ -15,14 +15,15 @@ use Rattle.world.specs.declared.request.Request.{Request}
 use Rattle.world.specs.declared.request.Requests.{Requests}
 use Rattle.world.specs.declared.execution.Executions.{Executions}
 use Rattle.world.specs.declared.execution.Ordered.{Ordered}
+use Rattle.world.specs.declared.sending.Sending.{Sending}
 use Rattle.world.specs.declared.outgoing.Outgoing.{Outgoing}
 use Rattle.world.specs.declared.hold.Hold.{Hold}
 use Rattle.world.specs.declared.delivered.Delivered.{Delivered}
 use Rattle.world.specs.Sizes.{requestsMost, executionsMost}
 use Rattle.world.specs.Masks.{nobody, has}
 use Rattle.world.specs.Roster.{member, faulty, strays}
-use Rattle.world.specs.Requests.{requestBytes, sameDigest, knownDigest}
-use Rattle.world.specs.Executions.{executionAt, executionOf, opened, called, ordered}
+use Rattle.world.specs.Requests.{requestAdded, withDigest, requestBytes, sameDigest, knownDigest}
+use Rattle.world.specs.Executions.{executionAt, executionPut, executionAdded, executionOf, opened, called, ordered}
 use Rattle.world.specs.Outgoing.{packetAt, packetFor, freeOutgoing, freePlaces, packetAdded, packetFreed, needed, sent}
 use Rattle.world.specs.Hold.{entryOf, entryAt, holding, readyPlace, freeHold, entryPut, entryFreed, entryAdded}
 use Rattle.world.specs.Delivered.{nextOf, appended}
@@ -52,13 +53,13 @@ withExecutions b t m = record { numbered = m; stored = b .stored; request = b .r
 
 -- the orderer: an execution made, and a call recorded at the execution of place k
 abbrev pub madeBy : Boxes → Ordered → Boxes
-madeBy b o = withExecutions b (record { table = set (b .executions .table) (b .executions .count) (o .execution); count = b .executions .count + 1 }) (o .numbered)
+madeBy b o = withExecutions b (executionAdded (b .executions) (o .execution)) (o .numbered)
 
 unfoldable pub made : Roster → ℕ → ℕ → List ℕ → Boxes → Boxes
 made r sender id digest b = madeBy b (ordered r (opened sender id digest) (b .numbered))
 
 abbrev pub recordedBy : Boxes → ℕ → Ordered → Boxes
-recordedBy b k o = withExecutions b (record { table = set (b .executions .table) k (o .execution); count = b .executions .count }) (o .numbered)
+recordedBy b k o = withExecutions b (executionPut (b .executions) k (o .execution)) (o .numbered)
 
 unfoldable pub recorded : Roster → ℕ → ℕ → Boxes → Boxes
 recorded r server k b = recordedBy b k (ordered r (called (executionAt (b .executions) k) server) (b .numbered))
@@ -66,9 +67,6 @@ recorded r server k b = recordedBy b k (ordered r (called (executionAt (b .execu
 -- Request. "A seal bit at n or above: 7. Digest of the 30 bytes equals a stored one: 8. 128 stored: 9. Otherwise stored."
 abbrev pub bareRequest : ℕ → ℕ → ℕ → List ℕ → Request
 bareRequest client serial seals command = record { serial = serial; client = client; seals = seals; command = command; digest = replicate digestBytes 0 }
-
-abbrev pub withDigest : Request → List ℕ → Request
-withDigest q d = record { serial = q .serial; client = q .client; seals = q .seals; command = q .command; digest = d }
 
 unfoldable pub requestFrom : ℕ → ℕ → ℕ → List ℕ → Request
 requestFrom client serial seals command = let q = bareRequest client serial seals command in withDigest q (digestOf (requestBytes q))
@@ -82,16 +80,20 @@ requestOf r client serial seals command q =
     must (not (strays r seals)) (storedWith BadField q)
     (must (not (knownDigest q (new .digest))) (storedWith SameDigest q)
     (must (ltb (q .count) requestsMost) (storedWith NoRoom q)
-    (storedWith Done (record { slots = set (q .slots) (q .count) new; count = q .count + 1 }))))
+    (storedWith Done (requestAdded q new))))
 
 -- Multicast. "4, 5, 6. Own seal bit 0: 3. 16 executions of its own: 10. Fewer than n−1 free outgoing places, or hold full: 9. Otherwise the
 -- id is its count of executions plus one; the execution is made; an entry at stage two goes into its hold; one packet goes to each other
 -- server, recipients ascending."
+abbrev pub ownSending : ℕ → ℕ → Boxes → Sending
+ownSending server slot b = record { id = b .executions .count + 1; sender = server; slot = slot }
+
 unfoldable pub multicastDone : Roster → ℕ → ℕ → Boxes → Boxes
 multicastDone r server slot b =
-    let id = b .executions .count + 1 in
-    withOutgoing (withHold (made r server id (b .request .digest) b) (entryAdded (b .hold) (entryOf 2 server id slot 0)))
-    (sent r nobody server (record { id = id; sender = server; slot = slot }) (b .outgoing))
+    let s = ownSending server slot b in
+    withOutgoing
+    (withHold (made r server (s .id) (b .request .digest) b) (entryAdded (b .hold) (entryOf 2 s 0)))
+    (sent r nobody server s (b .outgoing))
 
 abbrev pub roomy : Roster → ℕ → Boxes → Bool
 roomy r server b = leb (needed r nobody server) (freePlaces (b .outgoing)) && isFound (freeHold (b .hold))
@@ -114,14 +116,14 @@ arriveOf r origin place b =
     let rest = withOutgoing b (packetFreed (b .outgoing) place) in
     must (member r origin) (answered BadServer b)
     (must (p .there) (answered NoSuch b)
-    (must (not (faulty r (p .to) || holding (b .hold) (p .sender) (p .id) (p .slot))) (answered Dropped rest)
+    (must (not (faulty r (p .to) || holding (b .hold) (p .sending))) (answered Dropped rest)
     (must (isFound (freeHold (b .hold))) (answered NoRoom b)
-    (answered Done (withHold rest (entryAdded (b .hold) (entryOf 1 (p .sender) (p .id) (p .slot) 0)))))))
+    (answered Done (withHold rest (entryAdded (b .hold) (entryOf 1 (p .sending) 0)))))))
 
 -- an entry at a later stage; and freed, which drops the step
 abbrev pub raised : ℕ → ℕ → ℕ → Boxes → Boxes
 raised place stage number b =
-    let e = entryAt (b .hold) place in withHold b (entryPut (b .hold) place (entryOf stage (e .sender) (e .id) (e .slot) number))
+    withHold b (entryPut (b .hold) place (entryOf stage (entryAt (b .hold) place .sending) number))
 
 abbrev pub droppedAt : ℕ → Boxes → Ruling
 droppedAt place b = answered Dropped (withHold b (entryFreed (b .hold) place))
@@ -146,7 +148,7 @@ proposeOf r server place b =
     must (member r server) (answered BadServer b)
     (must (not (faulty r server)) (answered WrongSide b)
     (must (eqb (e .stage) 1) (answered NoSuch b)
-    (proposeFound r server place b (executionOf (b .executions) (e .id)))))
+    (proposeFound r server place b (executionOf (b .executions) (e .sending .id)))))
 
 -- Settle (entry at stage two). "4, 5, 6. No number: 2. Entry's digest is not the execution's: freed, 1. Server is not the sender: it needs
 -- one outgoing place for each server outside the final mask, itself excepted; too few: 9; else it sends there, ascending. Then stage three
@@ -158,9 +160,9 @@ settleTo r server place k b =
     let third = raised place 3 (x .number) b in
     must (not (eqb (x .number) 0)) (answered Wait b)
     (must (sameDigest (b .request .digest) (x .digest)) (droppedAt place b)
-    (must (not (eqb (e .sender) server)) (answered Done third)
+    (must (not (eqb (e .sending .sender) server)) (answered Done third)
     (must (leb (needed r (x .mask) server) (freePlaces (b .outgoing))) (answered NoRoom b)
-    (answered Done (withOutgoing third (sent r (x .mask) server (record { id = e .id; sender = e .sender; slot = e .slot }) (b .outgoing)))))))
+    (answered Done (withOutgoing third (sent r (x .mask) server (e .sending) (b .outgoing)))))))
 
 unfoldable pub settleFound : Roster → ℕ → ℕ → Boxes → Found → Ruling
 settleFound r server place b (At k) = settleTo r server place k b
@@ -172,14 +174,14 @@ settleOf r server place b =
     must (member r server) (answered BadServer b)
     (must (not (faulty r server)) (answered WrongSide b)
     (must (eqb (e .stage) 2) (answered NoSuch b)
-    (settleFound r server place b (executionOf (b .executions) (e .id)))))
+    (settleFound r server place b (executionOf (b .executions) (e .sending .id)))))
 
 -- Deliver. "4, 5. No entry at stage three has the server's next number: 2. Otherwise the lowest such place is freed, sender, id and slot are
 -- appended, next number plus one, 0."
 unfoldable pub deliverFound : Boxes → Found → Ruling
 deliverFound b (At k) =
     let e = entryAt (b .hold) k in
-    answered Done (withDelivered (withHold b (entryFreed (b .hold) k)) (appended (b .delivered) (record { id = e .id; sender = e .sender; slot = e .slot })))
+    answered Done (withDelivered (withHold b (entryFreed (b .hold) k)) (appended (b .delivered) (e .sending)))
 deliverFound b Nothing = answered Wait b
 
 unfoldable pub deliverOf : Roster → ℕ → Boxes → Ruling
@@ -191,11 +193,12 @@ deliverOf r server b =
 -- Forge packet. "4 (any of three), 5 for from, 6, no free outgoing place of from: 9. Otherwise sent. It may claim any sender."
 unfoldable pub forgePacketOf : Roster → ℕ → ℕ → ℕ → ℕ → ℕ → Boxes → Ruling
 forgePacketOf r from to sender id slot b =
+    let s : Sending = record { id = id; sender = sender; slot = slot } in
     must (member r from && member r to && member r sender) (answered BadServer b)
     (must (faulty r from) (answered WrongSide b)
     (must (ltb slot (b .stored)) (answered NoSuch b)
     (must (isFound (freeOutgoing (b .outgoing))) (answered NoRoom b)
-    (answered Done (withOutgoing b (packetAdded (b .outgoing) (packetFor to (record { id = id; sender = sender; slot = slot }))))))))
+    (answered Done (withOutgoing b (packetAdded (b .outgoing) (packetFor to s)))))))
 
 -- Forge send. "4, 5. Key exists: 13. 16 executions: 10. Otherwise made."
 unfoldable pub forgeSendOf : Roster → ℕ → ℕ → List ℕ → Boxes → Ruling

@@ -13,11 +13,11 @@ use Rattle.world.specs.declared.request.Request.{Request}
 use Rattle.world.specs.declared.request.Requests.{Requests}
 use Rattle.world.specs.declared.execution.Execution.{Execution}
 use Rattle.world.specs.declared.execution.Executions.{Executions}
+use Rattle.world.specs.declared.sending.Sending.{Sending}
 use Rattle.world.specs.declared.outgoing.Outgoing.{Outgoing}
 use Rattle.world.specs.declared.outgoing.Packet.{Packet}
 use Rattle.world.specs.declared.hold.Entry.{Entry}
 use Rattle.world.specs.declared.hold.Hold.{Hold}
-use Rattle.world.specs.declared.delivered.Item.{Item}
 use Rattle.world.specs.declared.delivered.Delivered.{Delivered}
 use Rattle.world.specs.Sizes.{servers, requestsMost, executionsMost, outgoingPlaces, holdPlaces, deliveredMost}
 use Rattle.world.specs.Masks.{has}
@@ -27,7 +27,7 @@ use Rattle.world.specs.Executions.{executionAt}
 use Rattle.world.specs.Outgoing.{packetAt}
 use Rattle.world.specs.Hold.{entryAt}
 use Rattle.world.specs.Boxes.{executionsOf, outgoingOf, holdOf, deliveredOf, itemAt}
-use Rattle.protocol.specs.Zeros.{zeroRequest, zeroExecution, zeroPacket, zeroEntry, zeroItem}
+use Rattle.protocol.specs.Zeros.{zeroRequest, zeroExecution, zeroSending, zeroPacket, zeroEntry}
 use Rattle.protocol.specs.Names.{names, tableOf, ownExecution}
 
 -- "seals of stored requests have no bit at n or above; stored digests are those of their requests"
@@ -90,7 +90,8 @@ numbersSound ts m =
 
 -- a place of a packet: "every server below n", and where there is none, zeros
 unfoldable pub packetSound : Roster → ℕ → ℕ → Packet → Bool
-packetSound r stored origin p = cond (p .there) (member r origin && member r (p .to) && names r stored (p .sender) (p .slot)) (zeroPacket p)
+packetSound r stored origin p =
+    cond (p .there) (member r origin && member r (p .to) && names r stored (p .sending)) (zeroPacket p)
 
 -- the packets of one origin
 unfoldable pub outgoingSound : Roster → ℕ → ℕ → Outgoing → Bool
@@ -104,17 +105,17 @@ stageSound m e = cond (eqb (e .stage) 3) (leb 1 (e .number) && leb (e .number) m
 unfoldable pub entrySound : Roster → ℕ → ℕ → ℕ → Executions → Entry → Bool
 entrySound r stored m server t e =
     cond (eqb (e .stage) 0) (zeroEntry e)
-    (leb (e .stage) 3 && member r server && names r stored (e .sender) (e .slot)
-    && implies (ltb 1 (e .stage)) (isFound (ownExecution t e)) && stageSound m e)
+    (leb (e .stage) 3 && member r server && names r stored (e .sending)
+    && implies (ltb 1 (e .stage)) (isFound (ownExecution t (e .sending))) && stageSound m e)
 
 -- the entries of one server
 unfoldable pub holdSound : Roster → ℕ → ℕ → List Executions → ℕ → Hold → Bool
 holdSound r stored m ts server h =
-    every (λ (k : ℕ). entrySound r stored m server (tableOf ts (entryAt h k .sender)) (entryAt h k)) holdPlaces
+    every (λ (k : ℕ). entrySound r stored m server (tableOf ts (entryAt h k .sending .sender)) (entryAt h k)) holdPlaces
 
 -- place k of what a server has delivered, used or not
-unfoldable pub itemSound : Roster → ℕ → ℕ → ℕ → Item → Bool
-itemSound r stored done k i = cond (ltb k done) (names r stored (i .sender) (i .slot)) (zeroItem i)
+unfoldable pub itemSound : Roster → ℕ → ℕ → ℕ → Sending → Bool
+itemSound r stored done k s = cond (ltb k done) (names r stored s) (zeroSending s)
 
 -- "a server's next number is its delivered count plus one, and that count is at most M"
 unfoldable pub deliveredSound : Roster → ℕ → ℕ → ℕ → Delivered → Bool

@@ -3,12 +3,12 @@ use Prim.Native.Nat.{ℕ}
 use mathlib.Core.List.{List, [], _∷_}
 use lib.ListN.{getD, set}
 use Rattle.world.specs.declared.World.{World}
-use Rattle.world.specs.declared.request.Requests.{Requests}
+use Rattle.world.specs.declared.sending.Sending.{Sending}
 use Rattle.world.specs.Sizes.{requestsMost}
 use Rattle.world.specs.Requests.{requestAt}
 use Rattle.world.specs.Outgoing.{packetAt}
 use Rattle.world.specs.Hold.{entryAt}
-use Rattle.world.specs.Boxes.{within, seat, outgoingOf, holdOf}
+use Rattle.world.specs.Boxes.{within, seat, withRequests, noTable, noPackets, noEntries, noItems, outgoingOf, holdOf}
 use Rattle.protocol.specs.declared.boxes.Boxes.{Boxes}
 use Rattle.protocol.specs.declared.boxes.Ruling.{Ruling}
 use Rattle.protocol.specs.declared.boxes.Requested.{Requested}
@@ -27,15 +27,19 @@ ends code w = record { code = code; world = w }
 abbrev pub touch : ℕ → ℕ → ℕ → ℕ → Touch
 touch server holder sender slot = record { server = seat server; holder = seat holder; sender = seat sender; slot = within requestsMost slot }
 
+-- those of a server with an entry of the sending
+abbrev pub touchFor : ℕ → Sending → Touch
+touchFor server s = touch server server (s .sender) (s .slot)
+
 abbrev pub boxesOf : World → Touch → Boxes
 boxesOf w t = record {
   numbered = w .numbered;
   stored = w .requests .count;
   request = requestAt (w .requests) (t .slot);
-  executions = getD (w .executions) (t .sender) (record { table = []; count = 0 });
-  outgoing = getD (w .outgoing) (t .server) (record { places = [] });
-  hold = getD (w .holds) (t .holder) (record { places = [] });
-  delivered = getD (w .delivered) (t .server) (record { items = []; count = 0 });
+  executions = getD (w .executions) (t .sender) noTable;
+  outgoing = getD (w .outgoing) (t .server) noPackets;
+  hold = getD (w .holds) (t .holder) noEntries;
+  delivered = getD (w .delivered) (t .server) noItems;
 }
 
 abbrev pub putBack : World → Touch → Boxes → World
@@ -56,17 +60,6 @@ putBackStep w t s = ends (answerCode (s .answer)) (putBack w t (s .boxes))
 abbrev pub on : World → Touch → (Boxes → Ruling) → Outcome
 on w t rule = putBackStep w t (rule (boxesOf w t))
 
-abbrev pub withRequests : World → Requests → World
-withRequests w q = record {
-  roster = w .roster;
-  numbered = w .numbered;
-  requests = q;
-  executions = w .executions;
-  outgoing = w .outgoing;
-  holds = w .holds;
-  delivered = w .delivered;
-}
-
 abbrev pub putRequests : World → Requested → Outcome
 putRequests w r = ends (answerCode (r .answer)) (withRequests w (r .requests))
 
@@ -76,9 +69,9 @@ stepOf w (Request client serial seals command) = putRequests w (requestOf (w .ro
 stepOf w (Multicast server slot) = on w (touch server server server slot) (multicastOf (w .roster) server slot)
 stepOf w (Arrive origin place) = on w (touch origin (packetAt (outgoingOf w origin) place .to) origin 0) (arriveOf (w .roster) origin place)
 stepOf w (Propose server place) =
-    on w (touch server server (entryAt (holdOf w server) place .sender) (entryAt (holdOf w server) place .slot)) (proposeOf (w .roster) server place)
+    on w (touchFor server (entryAt (holdOf w server) place .sending)) (proposeOf (w .roster) server place)
 stepOf w (Settle server place) =
-    on w (touch server server (entryAt (holdOf w server) place .sender) (entryAt (holdOf w server) place .slot)) (settleOf (w .roster) server place)
+    on w (touchFor server (entryAt (holdOf w server) place .sending)) (settleOf (w .roster) server place)
 stepOf w (Deliver server) = on w (touch server server server 0) (deliverOf (w .roster) server)
 stepOf w (ForgePacket from to sender id slot) = on w (touch from from from 0) (forgePacketOf (w .roster) from to sender id slot)
 stepOf w (ForgeSend server id digest) = on w (touch server server server 0) (forgeSendOf (w .roster) server id digest)

@@ -8,9 +8,9 @@ use Rattle.search.specs.Search.{every}
 use Rattle.fips180.specs.Digest.{digestBytes}
 use Rattle.world.specs.declared.request.Request.{Request}
 use Rattle.world.specs.declared.execution.Execution.{Execution}
+use Rattle.world.specs.declared.sending.Sending.{Sending}
 use Rattle.world.specs.declared.outgoing.Packet.{Packet}
 use Rattle.world.specs.declared.hold.Entry.{Entry}
-use Rattle.world.specs.declared.delivered.Item.{Item}
 use Rattle.world.specs.Sizes.{commandBytes}
 
 unfoldable pub zeroBytes : List ℕ → ℕ → Bool
@@ -22,11 +22,11 @@ zeroRequest q = eqb (q .serial) 0 && eqb (q .client) 0 && eqb (q .seals) 0 && ze
 abbrev pub zeroExecution : Execution → Bool
 zeroExecution x = eqb (x .number) 0 && eqb (x .id) 0 && eqb (x .called) 0 && eqb (x .mask) 0 && zeroBytes (x .digest) digestBytes
 
+abbrev pub zeroSending : Sending → Bool
+zeroSending s = eqb (s .id) 0 && eqb (s .sender) 0 && eqb (s .slot) 0
+
 abbrev pub zeroPacket : Packet → Bool
-zeroPacket p = not (p .there) && eqb (p .id) 0 && eqb (p .to) 0 && eqb (p .sender) 0 && eqb (p .slot) 0
+zeroPacket p = not (p .there) && eqb (p .to) 0 && zeroSending (p .sending)
 
 abbrev pub zeroEntry : Entry → Bool
-zeroEntry e = eqb (e .stage) 0 && eqb (e .number) 0 && eqb (e .id) 0 && eqb (e .sender) 0 && eqb (e .slot) 0
-
-abbrev pub zeroItem : Item → Bool
-zeroItem i = eqb (i .id) 0 && eqb (i .sender) 0 && eqb (i .slot) 0
+zeroEntry e = eqb (e .stage) 0 && eqb (e .number) 0 && zeroSending (e .sending)

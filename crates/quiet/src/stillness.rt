@@ -15,6 +15,7 @@ use world::Executions;
 use world::Hold;
 use world::Outgoing;
 use world::Roster;
+use world::Sending;
 use world::World;
 
 // Whether no outgoing place has a packet for a correct server.
@@ -34,11 +35,11 @@ fn outgoing_quiet(roster: Roster, o: Outgoing) -> bool
     }
 }
 
-// Whether the execution that an entry names is numbered.
-fn is_numbered(t: Executions, e: Entry) -> bool
-    ensures { λ r. ⌜ r ≡ isNumbered t (ownExecution t e) ⌝ }
+// Whether the execution of a sending is numbered.
+fn is_numbered(t: Executions, sending: Sending) -> bool
+    ensures { λ r. ⌜ r ≡ isNumbered t (ownExecution t sending) ⌝ }
 {
-    let Found::At(k) = own_execution(t, e) else {
+    let Found::At(k) = own_execution(t, sending) else {
         return false;
     };
     t.table[k].number != Execution::UNNUMBERED
@@ -48,8 +49,8 @@ fn is_numbered(t: Executions, e: Entry) -> bool
 fn stirs(t: Executions, next: u32, e: Entry) -> bool
     ensures { λ r. ⌜ r ≡ stirs t next e ⌝ }
 {
-    ((e.stage == Entry::ONE) & has_execution(t, e))
-        | ((e.stage == Entry::TWO) & is_numbered(t, e))
+    ((e.stage == Entry::ONE) & has_execution(t, e.sending))
+        | ((e.stage == Entry::TWO) & is_numbered(t, e.sending))
         | ((e.stage == Entry::THREE) & (e.number == next))
 }
 
@@ -63,7 +64,7 @@ fn hold_quiet(tables: [Executions; World::SERVERS], next: u32, h: Hold) -> bool
             break true;
         }
         let e = h.places[k];
-        let s = seat(e.sender);
+        let s = seat(e.sending.sender);
         if stirs(tables[s], next, e) {
             break false;
         }

@@ -31,14 +31,13 @@ pub fn arrive(roster: Roster, origin: u8, place: u8, b: Boxes) -> Ruling
     if !p.there {
         return answer(b, Answer::NoSuch);
     }
-    if roster.is_faulty(p.to) | b.hold.holds(p.sender, p.id, p.slot) {
+    if roster.is_faulty(p.to) | b.hold.holds(p.sending) {
         return answer(rest, Answer::Dropped);
     }
     if !b.hold.has_room() {
         return answer(b, Answer::NoRoom);
     }
-    let h = b.hold
-        .keep(Entry::new(Entry::ONE, p.sender, p.id, p.slot, 0));
+    let h = b.hold.keep(Entry::new(Entry::ONE, p.sending, 0));
     let mut v = rest;
     v.hold = h;
     answer(v, Answer::Done)

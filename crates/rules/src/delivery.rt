@@ -7,7 +7,6 @@ use protocol::Boxes;
 use protocol::Ruling;
 use search::Found;
 use world::Entry;
-use world::Item;
 use world::Roster;
 
 // A correct server delivers the entry that has its next number.
@@ -26,11 +25,7 @@ pub fn deliver(roster: Roster, server: u8, b: Boxes) -> Ruling
     let held = b.hold;
     let e = held.places[k];
     let h = held.put(k, Entry::free());
-    let d = b.delivered.append(Item {
-        id: e.id,
-        sender: e.sender,
-        slot: e.slot,
-    });
+    let d = b.delivered.append(e.sending);
     let mut v = b;
     v.hold = h;
     v.delivered = d;

@@ -21,5 +21,5 @@ pub(crate) fn raise(b: Boxes, place: u8, stage: u8, number: u32) -> Boxes
     ensures { λ r. ⌜ r ≡ raised place stage number b ⌝ }
 {
     let e = b.hold.at(place);
-    put(b, place, Entry::new(stage, e.sender, e.id, e.slot, number))
+    put(b, place, Entry::new(stage, e.sending, number))
 }

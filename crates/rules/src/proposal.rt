@@ -54,7 +54,7 @@ pub fn propose(roster: Roster, server: u8, place: u8, b: Boxes) -> Ruling
     if e.stage != Entry::ONE {
         return answer(b, Answer::NoSuch);
     }
-    let Found::At(k) = b.executions.find(e.id) else {
+    let Found::At(k) = b.executions.find(e.sending.id) else {
         return answer(b, Answer::Wait);
     };
     propose_to(roster, server, place, k, b)

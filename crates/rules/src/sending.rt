@@ -25,17 +25,13 @@ fn cast(roster: Roster, server: u8, slot: u8, b: Boxes) -> Boxes
 {
     let id = b.executions.count as u16 + 1;
     let digest = b.request.digest;
-    let h = b.hold.keep(Entry::new(Entry::TWO, server, id, slot, 0));
-    let o = b.outgoing.send(
-        roster,
-        NOBODY,
-        server,
-        Sending {
-            id,
-            sender: server,
-            slot,
-        },
-    );
+    let sending = Sending {
+        id,
+        sender: server,
+        slot,
+    };
+    let h = b.hold.keep(Entry::new(Entry::TWO, sending, 0));
+    let o = b.outgoing.send(roster, NOBODY, server, sending);
     let mut v = make(b, roster, server, id, digest);
     v.hold = h;
     v.outgoing = o;

@@ -13,7 +13,6 @@ use search::Found;
 use world::Entry;
 use world::Execution;
 use world::Roster;
-use world::Sending;
 use world::recipients;
 use world::same_digest;
 
@@ -33,22 +32,13 @@ fn settle_to(roster: Roster, server: u8, place: u8, k: usize, b: Boxes) -> Rulin
         return drop_entry(b, place);
     }
     let e = b.hold.at(place);
-    if e.sender == server {
+    if e.sending.sender == server {
         return answer(raise(b, place, Entry::THREE, x.number), Answer::Done);
     }
     if b.outgoing.room() < recipients(roster, x.mask, server) {
         return answer(b, Answer::NoRoom);
     }
-    let o = b.outgoing.send(
-        roster,
-        x.mask,
-        server,
-        Sending {
-            id: e.id,
-            sender: e.sender,
-            slot: e.slot,
-        },
-    );
+    let o = b.outgoing.send(roster, x.mask, server, e.sending);
     let mut v = raise(b, place, Entry::THREE, x.number);
     v.outgoing = o;
     answer(v, Answer::Done)
@@ -68,7 +58,7 @@ pub fn settle(roster: Roster, server: u8, place: u8, b: Boxes) -> Ruling
     if e.stage != Entry::TWO {
         return answer(b, Answer::NoSuch);
     }
-    let Found::At(k) = b.executions.find(e.id) else {
+    let Found::At(k) = b.executions.find(e.sending.id) else {
         return answer(b, Answer::Wait);
     };
     settle_to(roster, server, place, k, b)

@@ -37,8 +37,8 @@ fn entry_sound(
     }
     (e.stage <= Entry::THREE)
         & roster.member(server)
-        & names(roster, stored, e.sender, e.slot)
-        & (!(Entry::ONE < e.stage) | has_execution(t, e))
+        & names(roster, stored, e.sending)
+        & (!(Entry::ONE < e.stage) | has_execution(t, e.sending))
         & stage_sound(numbered, e)
 }
 
@@ -59,7 +59,7 @@ pub fn hold_sound(
             break true;
         }
         let e = h.places[k];
-        let s = seat(e.sender);
+        let s = seat(e.sending.sender);
         if !entry_sound(roster, stored, numbered, server, tables[s], e) {
             break false;
         }

@@ -6,19 +6,19 @@ ghost use Rattle.world.specs.Boxes.{itemAt};
 ghost use Rattle.world.specs.Sizes.{deliveredMost};
 ghost use Rattle.protocol.specs.Sound.{itemSound, deliveredSound};
 use sound_names::names;
-use sound_names::zero_item;
+use sound_names::zero_sending;
 use world::Delivered;
-use world::Item;
 use world::Roster;
+use world::Sending;
 
 // Whether place k is sound, used or not.
-fn item_sound(roster: Roster, stored: u8, done: u32, k: usize, i: Item) -> bool
+fn item_sound(roster: Roster, stored: u8, done: u32, k: usize, i: Sending) -> bool
     ensures { λ r. ⌜ r ≡ itemSound roster stored done k i ⌝ }
 {
     if k < done as usize {
-        return names(roster, stored, i.sender, i.slot);
+        return names(roster, stored, i);
     }
-    zero_item(i)
+    zero_sending(i)
 }
 
 // Whether every place is sound.

@@ -14,7 +14,7 @@ fn packet_sound(roster: Roster, stored: u8, origin: u8, p: Packet) -> bool
     if !p.there {
         return zero_packet(p);
     }
-    roster.member(origin) & roster.member(p.to) & names(roster, stored, p.sender, p.slot)
+    roster.member(origin) & roster.member(p.to) & names(roster, stored, p.sending)
 }
 
 // Whether every outgoing place of an origin is sound.

@@ -15,8 +15,8 @@ use Rattle.sound_names.proofs.zeros.zero_entry.Kinds as zero-entry-kind
 use Rattle.sound_names.proofs.zeros.zero_entry.Reads as zero-entry-reads
 use Rattle.sound_names.proofs.zeros.zero_execution.Kinds as zero-execution-kinds
 use Rattle.sound_names.proofs.zeros.zero_execution.Reads as zero-execution-reads
-use Rattle.sound_names.proofs.zeros.zero_item.Kinds as zero-item-kinds
-use Rattle.sound_names.proofs.zeros.zero_item.Reads as zero-item-reads
+use Rattle.sound_names.proofs.zeros.zero_sending.Kinds as zero-sending-kinds
+use Rattle.sound_names.proofs.zeros.zero_sending.Reads as zero-sending-reads
 use Rattle.sound_names.proofs.zeros.zero_packet.Kinds as zero-packet-kinds
 use Rattle.sound_names.proofs.zeros.zero_packet.Reads as zero-packet-reads
 use Rattle.sound_names.proofs.zeros.zero_request.Kinds as zero-request-kinds
@@ -43,8 +43,8 @@ zero-entry-unique κs a x y e f p q = p ∙ sym q
 pub zero-execution-unique : Unique 0 zero-execution-kinds.ps zero-execution-kinds.r zero-execution-reads.Post
 zero-execution-unique κs a x y e f p q = p ∙ sym q
 
-pub zero-item-unique : Unique 0 zero-item-kinds.ps zero-item-kinds.r zero-item-reads.Post
-zero-item-unique κs a x y e f p q = p ∙ sym q
+pub zero-sending-unique : Unique 0 zero-sending-kinds.ps zero-sending-kinds.r zero-sending-reads.Post
+zero-sending-unique κs a x y e f p q = p ∙ sym q
 
 pub zero-packet-unique : Unique 0 zero-packet-kinds.ps zero-packet-kinds.r zero-packet-reads.Post
 zero-packet-unique κs a x y e f p q = p ∙ sym q

@@ -1,19 +1,19 @@
-// What packets, entries and items name: servers, slots and executions.
+// What the sendings of packets, entries and items name: servers, slots and executions.
 ghost use mathlib.Core.Path.{_≡_};
 ghost use Rattle.search.specs.Search.{isFound};
 ghost use Rattle.world.specs.Boxes.{seat};
 ghost use Rattle.world.specs.Roster.{correct};
 ghost use Rattle.protocol.specs.Names.{names, ownExecution};
 use search::Found;
-use world::Entry;
 use world::Executions;
 use world::Roster;
+use world::Sending;
 
 // Whether the sender is a server and the slot that of a stored request.
-pub fn names(roster: Roster, stored: u8, sender: u8, slot: u8) -> bool
-    ensures { λ r. ⌜ r ≡ names roster stored sender slot ⌝ }
+pub fn names(roster: Roster, stored: u8, sending: Sending) -> bool
+    ensures { λ r. ⌜ r ≡ names roster stored sending ⌝ }
 {
-    roster.member(sender) & (slot < stored)
+    roster.member(sending.sender) & (sending.slot < stored)
 }
 
 // Whether a server takes part and is not faulty.
@@ -33,21 +33,21 @@ pub fn seat(server: u8) -> usize
     0
 }
 
-// The execution that an entry names, among its sender's.
-pub fn own_execution(t: Executions, e: Entry) -> Found
-    ensures { λ r. ⌜ r ≡ ownExecution t e ⌝ }
+// The execution of a sending, among its sender's.
+pub fn own_execution(t: Executions, sending: Sending) -> Found
+    ensures { λ r. ⌜ r ≡ ownExecution t sending ⌝ }
 {
-    if e.sender < Roster::MOST {
-        return t.find(e.id);
+    if sending.sender < Roster::MOST {
+        return t.find(sending.id);
     }
     Found::Nothing
 }
 
 // Whether there is such an execution.
-pub fn has_execution(t: Executions, e: Entry) -> bool
-    ensures { λ r. ⌜ r ≡ isFound (ownExecution t e) ⌝ }
+pub fn has_execution(t: Executions, sending: Sending) -> bool
+    ensures { λ r. ⌜ r ≡ isFound (ownExecution t sending) ⌝ }
 {
-    let Found::At(_) = own_execution(t, e) else {
+    let Found::At(_) = own_execution(t, sending) else {
         return false;
     };
     true

@@ -1,12 +1,12 @@
 // "All zeros": what a free or unused place holds.
 ghost use mathlib.Core.Path.{_≡_};
 ghost use lib.ListN.{length};
-ghost use Rattle.protocol.specs.Zeros.{zeroBytes, zeroRequest, zeroExecution, zeroPacket, zeroEntry, zeroItem};
+ghost use Rattle.protocol.specs.Zeros.{zeroBytes, zeroRequest, zeroExecution, zeroSending, zeroPacket, zeroEntry};
 use world::Entry;
 use world::Execution;
-use world::Item;
 use world::Packet;
 use world::Request;
+use world::Sending;
 
 // Whether all bytes are 0.
 fn zero_bytes(s: &[u8]) -> bool
@@ -45,19 +45,19 @@ pub fn zero_execution(x: Execution) -> bool
 pub fn zero_packet(p: Packet) -> bool
     ensures { λ r. ⌜ r ≡ zeroPacket p ⌝ }
 {
-    !p.there & (p.id == 0) & (p.to == 0) & (p.sender == 0) & (p.slot == 0)
+    !p.there & (p.to == 0) & zero_sending(p.sending)
 }
 
 // Whether a place of an entry is all zeros.
 pub fn zero_entry(e: Entry) -> bool
     ensures { λ r. ⌜ r ≡ zeroEntry e ⌝ }
 {
-    (e.stage == 0) & (e.number == 0) & (e.id == 0) & (e.sender == 0) & (e.slot == 0)
+    (e.stage == 0) & (e.number == 0) & zero_sending(e.sending)
 }
 
-// Whether a place of an item is all zeros.
-pub fn zero_item(i: Item) -> bool
-    ensures { λ r. ⌜ r ≡ zeroItem i ⌝ }
+// Whether a sending is all zeros, as at an unused place of an item.
+pub fn zero_sending(s: Sending) -> bool
+    ensures { λ r. ⌜ r ≡ zeroSending s ⌝ }
 {
-    (i.id == 0) & (i.sender == 0) & (i.slot == 0)
+    (s.id == 0) & (s.sender == 0) & (s.slot == 0)
 }

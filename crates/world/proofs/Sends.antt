@@ -4,7 +4,7 @@ use mathlib.Core.Bool.{cond}
 use Prim.Native.Nat.{ℕ, _+_}
 use native.Mathlib.Numerals.{add-one}
 use Rattle.world.specs.declared.roster.Roster.{Roster}
-use Rattle.world.specs.declared.outgoing.Sending.{Sending}
+use Rattle.world.specs.declared.sending.Sending.{Sending}
 use Rattle.world.specs.declared.outgoing.Outgoing.{Outgoing}
 use Rattle.world.specs.Outgoing.{recipient, packetAdded, packetFor, sentBelow}
 

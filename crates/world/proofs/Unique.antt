@@ -91,6 +91,8 @@ use Rattle.world.proofs.roster.Roster.threshold.Kinds as roster-thresho
 use Rattle.world.proofs.roster.Roster.threshold.Reads as roster-threshold-reads
 use Rattle.world.proofs.request.same_digest.Kinds as same-digest-kinds
 use Rattle.world.proofs.request.same_digest.Reads as same-digest-reads
+use Rattle.world.proofs.sending.Sending.none.Kinds as sending-none-kinds
+use Rattle.world.proofs.sending.Sending.none.Reads as sending-none-reads
 use Rattle.world.proofs.World.fresh.Kinds as world-fresh-kinds
 use Rattle.world.proofs.World.fresh.Reads as world-fresh-reads
 
@@ -228,6 +230,9 @@ roster-threshold-unique κs a x y e f p q = p ∙ sym q
 
 pub same-digest-unique : Unique 0 same-digest-kinds.ps same-digest-kinds.r same-digest-reads.Post
 same-digest-unique κs a x y e f p q = p ∙ sym q
+
+pub sending-none-unique : Unique 0 sending-none-kinds.ps sending-none-kinds.r sending-none-reads.Post
+sending-none-unique κs a x y e f p q = p ∙ sym q
 
 pub world-fresh-unique : Unique 0 world-fresh-kinds.ps world-fresh-kinds.r world-fresh-reads.Post
 world-fresh-unique κs a x y e f p q = p ∙ sym q

@@ -4,7 +4,7 @@ use mathlib.Core.Bool.{cond, _&&_}
 use mathlib.Core.List.{List, []}
 use lib.Count.{ones}
 use lib.Dec.{eqb, ltb}
-use lib.ListN.{getD, replicate}
+use lib.ListN.{getD, set, replicate}
 use Rattle.search.specs.declared.Found.{Found}
 use Rattle.search.specs.Search.{first}
 use Rattle.fips180.specs.Digest.{digestBytes}
@@ -29,6 +29,13 @@ noExecution = record { number = 0; id = 0; called = nobody; mask = nobody; diges
 
 abbrev pub executionAt : Executions → ℕ → Execution
 executionAt t k = getD (t .table) k noExecution
+
+-- another execution at a place, and one more at the next place
+abbrev pub executionPut : Executions → ℕ → Execution → Executions
+executionPut t k x = record { table = set (t .table) k x; count = t .count }
+
+abbrev pub executionAdded : Executions → Execution → Executions
+executionAdded t x = record { table = set (t .table) (t .count) x; count = t .count + 1 }
 
 -- "keyed by sender and id": the place of the id among the sender's executions
 abbrev pub executionOf : Executions → ℕ → Found

@@ -6,16 +6,18 @@ use lib.ListN.{getD, set, replicate}
 use Rattle.search.specs.declared.Found.{Found}
 use Rattle.search.specs.declared.Found.the-variants.{At, Nothing}
 use Rattle.search.specs.Search.{first, any}
+use Rattle.world.specs.declared.sending.Sending.{Sending}
 use Rattle.world.specs.declared.hold.Entry.{Entry}
 use Rattle.world.specs.declared.hold.Hold.{Hold}
 use Rattle.world.specs.Sizes.{holdPlaces}
+use Rattle.world.specs.Sending.{noSending}
 
 -- an entry of a sending at a stage, with its number (0 before stage three); a free place is all zeros
-abbrev pub entryOf : ℕ → ℕ → ℕ → ℕ → ℕ → Entry
-entryOf stage sender id slot number = record { number = number; id = id; stage = stage; sender = sender; slot = slot }
+abbrev pub entryOf : ℕ → Sending → ℕ → Entry
+entryOf stage s number = record { number = number; sending = s; stage = stage }
 
 abbrev pub freeEntry : Entry
-freeEntry = entryOf 0 0 0 0 0
+freeEntry = entryOf 0 noSending 0
 
 unfoldable pub freshHold : Hold
 freshHold = record { places = replicate holdPlaces freeEntry }
@@ -24,12 +26,14 @@ freshHold = record { places = replicate holdPlaces freeEntry }
 abbrev pub entryAt : Hold → ℕ → Entry
 entryAt h place = getD (h .places) place freeEntry
 
--- an entry of this sender, id and slot, at any stage
-abbrev pub isEntry : Entry → ℕ → ℕ → ℕ → Bool
-isEntry e sender id slot = not (eqb (e .stage) 0) && eqb (e .sender) sender && eqb (e .id) id && eqb (e .slot) slot
+-- an entry of this sending, at any stage
+abbrev pub isEntry : Entry → Sending → Bool
+isEntry e s =
+    not (eqb (e .stage) 0) && eqb (e .sending .sender) (s .sender) && eqb (e .sending .id) (s .id)
+    && eqb (e .sending .slot) (s .slot)
 
-abbrev pub holding : Hold → ℕ → ℕ → ℕ → Bool
-holding h sender id slot = any (λ (k : ℕ). isEntry (entryAt h k) sender id slot) holdPlaces
+abbrev pub holding : Hold → Sending → Bool
+holding h s = any (λ (k : ℕ). isEntry (entryAt h k) s) holdPlaces
 
 -- an entry at stage three that has the number, and the lowest place of one
 abbrev pub isReady : Entry → ℕ → Bool

@@ -3,6 +3,7 @@ pub mod Masks
 pub mod Roster
 pub mod Requests
 pub mod Executions
+pub mod Sending
 pub mod Outgoing
 pub mod Hold
 pub mod Delivered

@@ -7,19 +7,20 @@ use Rattle.search.specs.declared.Found.{Found}
 use Rattle.search.specs.declared.Found.the-variants.{At, Nothing}
 use Rattle.search.specs.Search.{first, count}
 use Rattle.world.specs.declared.roster.Roster.{Roster}
+use Rattle.world.specs.declared.sending.Sending.{Sending}
 use Rattle.world.specs.declared.outgoing.Packet.{Packet}
-use Rattle.world.specs.declared.outgoing.Sending.{Sending}
 use Rattle.world.specs.declared.outgoing.Outgoing.{Outgoing}
 use Rattle.world.specs.Sizes.{servers, outgoingPlaces}
 use Rattle.world.specs.Masks.{has}
 use Rattle.world.specs.Roster.{member}
+use Rattle.world.specs.Sending.{noSending}
 
 -- a free place: all zeros
 abbrev pub freePacket : Packet
-freePacket = record { id = 0; there = false; to = 0; sender = 0; slot = 0 }
+freePacket = record { sending = noSending; there = false; to = 0 }
 
 abbrev pub packetFor : ℕ → Sending → Packet
-packetFor to s = record { id = s .id; there = true; to = to; sender = s .sender; slot = s .slot }
+packetFor to s = record { sending = s; there = true; to = to }
 
 unfoldable pub freshOutgoing : Outgoing
 freshOutgoing = record { places = replicate outgoingPlaces freePacket }

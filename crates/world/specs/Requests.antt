@@ -3,7 +3,7 @@ use Prim.Native.Nat.{ℕ, _+_}
 use mathlib.Core.Bool.{Bool, not, _&&_}
 use mathlib.Core.List.{List, [], _∷_, _++_}
 use lib.Dec.{eqb, ltb}
-use lib.ListN.{getD, replicate}
+use lib.ListN.{getD, set, replicate}
 use Rattle.search.specs.Search.{any}
 use Rattle.fips180.specs.Sha256.{be}
 use Rattle.fips180.specs.Digest.{digestBytes}
@@ -24,6 +24,14 @@ noRequest = record { serial = 0; client = 0; seals = 0; command = []; digest = [
 
 abbrev pub requestAt : Requests → ℕ → Request
 requestAt q slot = getD (q .slots) slot noRequest
+
+-- a request more, at the next slot
+abbrev pub requestAdded : Requests → Request → Requests
+requestAdded q new = record { slots = set (q .slots) (q .count) new; count = q .count + 1 }
+
+-- a request with another digest
+abbrev pub withDigest : Request → List ℕ → Request
+withDigest q d = record { serial = q .serial; client = q .client; seals = q .seals; command = q .command; digest = d }
 
 -- "the 30 bytes": client, number (4), seals, command (24), as the record has them
 unfoldable pub requestBytes : Request → List ℕ

@@ -3,17 +3,11 @@ ghost use mathlib.Core.Path.{_≡_};
 ghost use Rattle.world.specs.Delivered.{freshDelivered, nextOf, appended};
 use crate::execution::Executions;
 use crate::roster::Roster;
-
-#[repr(C)]
-pub struct Item {
-    pub id: u16,
-    pub sender: u8,
-    pub slot: u8,
-}
+use crate::sending::Sending;
 
 #[repr(C)]
 pub struct Delivered {
-    pub items: [Item; Delivered::MOST],
+    pub items: [Sending; Delivered::MOST],
     pub count: u32,
 }
 
@@ -25,13 +19,8 @@ impl Delivered {
     pub fn fresh() -> Delivered
         ensures { λ r. ⌜ r ≡ freshDelivered ⌝ }
     {
-        let item = Item {
-            id: 0,
-            sender: 0,
-            slot: 0,
-        };
         Delivered {
-            items: [item; Delivered::MOST],
+            items: [Sending::none(); Delivered::MOST],
             count: 0,
         }
     }
@@ -44,7 +33,7 @@ impl Delivered {
     }
 
     // One more item.
-    pub fn append(self, item: Item) -> Delivered
+    pub fn append(self, item: Sending) -> Delivered
         ensures { λ r. ⌜ r ≡ appended self item ⌝ }
     {
         let k = self.count as usize;

@@ -2,17 +2,16 @@
 ghost use mathlib.Core.Path.{_≡_};
 ghost use Rattle.search.specs.Search.{isFound};
 ghost use Rattle.world.specs.Hold.{entryOf, freeEntry, freshHold, entryAt, isEntry, holding, isReady, readyPlace, freeHold, entryAdded, entryPut};
+use crate::sending::Sending;
 use search::Found;
 
 #[repr(C)]
 pub struct Entry {
     // 0 until stage three.
     pub number: u32,
-    pub id: u16,
+    pub sending: Sending,
     // 0 at a free place.
     pub stage: u8,
-    pub sender: u8,
-    pub slot: u8,
 }
 
 #[repr(C)]
@@ -33,30 +32,28 @@ impl Entry {
     pub fn free() -> Entry
         ensures { λ r. ⌜ r ≡ freeEntry ⌝ }
     {
-        Entry::new(Entry::FREE, 0, 0, 0, 0)
+        Entry::new(Entry::FREE, Sending::none(), 0)
     }
 
     // An entry of a sending at a stage, with its number.
-    pub fn new(stage: u8, sender: u8, id: u16, slot: u8, number: u32) -> Entry
-        ensures { λ r. ⌜ r ≡ entryOf stage sender id slot number ⌝ }
+    pub fn new(stage: u8, sending: Sending, number: u32) -> Entry
+        ensures { λ r. ⌜ r ≡ entryOf stage sending number ⌝ }
     {
         Entry {
             number,
-            id,
+            sending,
             stage,
-            sender,
-            slot,
         }
     }
 
-    // Whether it is an entry of this sender, id and slot, at any stage.
-    pub fn is_of(self, sender: u8, id: u16, slot: u8) -> bool
-        ensures { λ r. ⌜ r ≡ isEntry self sender id slot ⌝ }
+    // Whether it is an entry of this sending, at any stage.
+    pub fn is_of(self, sending: Sending) -> bool
+        ensures { λ r. ⌜ r ≡ isEntry self sending ⌝ }
     {
         (self.stage != Entry::FREE)
-            & (self.sender == sender)
-            & (self.id == id)
-            & (self.slot == slot)
+            & (self.sending.sender == sending.sender)
+            & (self.sending.id == sending.id)
+            & (self.sending.slot == sending.slot)
     }
 
     // Whether it is at stage three with this number.
@@ -90,16 +87,16 @@ impl Hold {
         self.places[k]
     }
 
-    // Whether an entry of this sender, id and slot is held.
-    pub fn holds(self, sender: u8, id: u16, slot: u8) -> bool
-        ensures { λ r. ⌜ r ≡ holding self sender id slot ⌝ }
+    // Whether an entry of this sending is held.
+    pub fn holds(self, sending: Sending) -> bool
+        ensures { λ r. ⌜ r ≡ holding self sending ⌝ }
     {
         let mut k: usize = 0;
         loop {
             if k == Hold::PLACES {
                 break false;
             }
-            if self.places[k].is_of(sender, id, slot) {
+            if self.places[k].is_of(sending) {
                 break true;
             }
             k += 1;

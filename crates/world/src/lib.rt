@@ -11,9 +11,9 @@ mod mask;
 mod outgoing;
 mod request;
 mod roster;
+mod sending;
 
 pub use delivered::Delivered;
-pub use delivered::Item;
 pub use execution::Execution;
 pub use execution::Executions;
 pub use execution::Ordered;
@@ -23,12 +23,12 @@ pub use mask::has;
 pub use mask::join;
 pub use outgoing::Outgoing;
 pub use outgoing::Packet;
-pub use outgoing::Sending;
 pub use outgoing::recipients;
 pub use request::Request;
 pub use request::Requests;
 pub use request::same_digest;
 pub use roster::Roster;
+pub use sending::Sending;
 
 #[repr(C)]
 pub struct World {

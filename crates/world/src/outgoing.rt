@@ -4,23 +4,15 @@ ghost use mathlib.Core.Bool.{cond};
 ghost use Rattle.world.specs.Outgoing.{freePacket, packetFor, freshOutgoing, packetAt, freeOutgoing, freePlaces, packetAdded, packetFreed, sent, needed, recipient};
 use crate::mask::has;
 use crate::roster::Roster;
+use crate::sending::Sending;
 use search::Found;
 
 #[repr(C)]
 pub struct Packet {
-    pub id: u16,
+    pub sending: Sending,
     // Whether there is a packet at the place.
     pub there: bool,
     pub to: u8,
-    pub sender: u8,
-    pub slot: u8,
-}
-
-// What a packet tells: the sender and id of an execution, and a request's slot.
-pub struct Sending {
-    pub id: u16,
-    pub sender: u8,
-    pub slot: u8,
 }
 
 #[repr(C)]
@@ -34,11 +26,9 @@ impl Packet {
         ensures { λ r. ⌜ r ≡ freePacket ⌝ }
     {
         Packet {
-            id: 0,
+            sending: Sending::none(),
             there: false,
             to: 0,
-            sender: 0,
-            slot: 0,
         }
     }
 
@@ -47,11 +37,9 @@ impl Packet {
         ensures { λ r. ⌜ r ≡ packetFor to sending ⌝ }
     {
         Packet {
-            id: sending.id,
+            sending,
             there: true,
             to,
-            sender: sending.sender,
-            slot: sending.slot,
         }
     }
 }

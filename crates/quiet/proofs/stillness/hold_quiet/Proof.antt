@@ -11,7 +11,7 @@ use Rattle.quiet.proofs.stillness.hold_quiet.Statement.{statement}
 use Rattle.quiet.proofs.stillness.hold_quiet.Tie as tie
 
 abbrev Inv-loop : tie.InvT-loop
-Inv-loop next tables h k₀ k = Held (λ (i : ℕ). not (stirs (tableOf tables (entryAt h i .sender)) next (entryAt h i))) 64 k
+Inv-loop next tables h k₀ k = Held (λ (i : ℕ). not (stirs (tableOf tables (entryAt h i .sending .sender)) next (entryAt h i))) 64 k
 
 abbrev μ-loop : tie.MeasureT-loop
 μ-loop next tables h k₀ k = 64 - k
@@ -29,10 +29,10 @@ seat-requires : tie.Need-seat-requires Inv-loop μ-loop
 seat-requires c κs = search needs
 
 mul-stirs : tie.Need-mul-stirs Inv-loop μ-loop
-mul-stirs c = omega (arith, seated (entryAt (c .before .before .before .before .args .t3) (c .before .before .before .loop .k) .sender) _ (c .seat .ensures))
+mul-stirs c = omega (arith, seated (entryAt (c .before .before .before .before .args .t3) (c .before .before .before .loop .k) .sending .sender) _ (c .seat .ensures))
 
 array-copy-out-stirs : tie.Need-array-copy-out-stirs Inv-loop μ-loop
-array-copy-out-stirs c = seated (entryAt (c .before .before .before .before .args .t3) (c .before .before .before .loop .k) .sender) _ (c .seat .ensures)
+array-copy-out-stirs c = seated (entryAt (c .before .before .before .before .args .t3) (c .before .before .before .loop .k) .sending .sender) _ (c .seat .ensures)
 
 stirs-requires : tie.Need-stirs-requires Inv-loop μ-loop
 stirs-requires c κs = search needs

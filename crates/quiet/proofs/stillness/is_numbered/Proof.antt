@@ -20,10 +20,10 @@ returns : tie.Need-returns
 returns c = ap (λ (f : Found). isNumbered (c .before .before .before .args .t1) f) (sym (c .enum-told .given .1) ∙ c .before .before .own-execution .ensures)
 
 mul-result : tie.Need-mul-result
-mul-result c = omega (arith, own-in (c .before .before .before .before .args .t1) (c .before .before .before .before .args .e) _ _ (c .before .before .before .own-execution .ensures) (c .before .k .given .1))
+mul-result c = omega (arith, own-in (c .before .before .before .before .args .t1) (c .before .before .before .before .args .sending) _ _ (c .before .before .before .own-execution .ensures) (c .before .k .given .1))
 
 element-copy-out-result : tie.Need-element-copy-out-result
-element-copy-out-result c = own-in (c .before .before .before .before .args .t1) (c .before .before .before .before .args .e) _ _ (c .before .before .before .own-execution .ensures) (c .before .k .given .1)
+element-copy-out-result c = own-in (c .before .before .before .before .args .t1) (c .before .before .before .before .args .sending) _ _ (c .before .before .before .own-execution .ensures) (c .before .k .given .1)
 
 returns-2 : tie.Need-returns-2
 returns-2 c = ap (λ (f : Found). isNumbered (c .before .before .before .before .args .t1) f) (sym (c .before .k .given .1) ∙ c .before .before .before .own-execution .ensures)

@@ -10,7 +10,7 @@ use Rattle.sound_boxes.proofs.entries.hold_sound.Statement.{statement}
 use Rattle.sound_boxes.proofs.entries.hold_sound.Tie as tie
 
 abbrev Inv-loop : tie.InvT-loop
-Inv-loop roster stored numbered server tables h k₀ k = Held (λ (i : ℕ). entrySound roster stored numbered server (tableOf tables (entryAt h i .sender)) (entryAt h i)) 64 k
+Inv-loop roster stored numbered server tables h k₀ k = Held (λ (i : ℕ). entrySound roster stored numbered server (tableOf tables (entryAt h i .sending .sender)) (entryAt h i)) 64 k
 
 abbrev μ-loop : tie.MeasureT-loop
 μ-loop roster stored numbered server tables h k₀ k = 64 - k
@@ -28,10 +28,10 @@ seat-requires : tie.Need-seat-requires Inv-loop μ-loop
 seat-requires c κs = search needs
 
 mul-entry-sound : tie.Need-mul-entry-sound Inv-loop μ-loop
-mul-entry-sound c = omega (arith, seated (entryAt (c .before .before .before .before .args .t6) (c .before .before .before .loop .k) .sender) _ (c .seat .ensures))
+mul-entry-sound c = omega (arith, seated (entryAt (c .before .before .before .before .args .t6) (c .before .before .before .loop .k) .sending .sender) _ (c .seat .ensures))
 
 array-copy-out-entry-sound : tie.Need-array-copy-out-entry-sound Inv-loop μ-loop
-array-copy-out-entry-sound c = seated (entryAt (c .before .before .before .before .args .t6) (c .before .before .before .loop .k) .sender) _ (c .seat .ensures)
+array-copy-out-entry-sound c = seated (entryAt (c .before .before .before .before .args .t6) (c .before .before .before .loop .k) .sending .sender) _ (c .seat .ensures)
 
 entry-sound-requires : tie.Need-entry-sound-requires Inv-loop μ-loop
 entry-sound-requires c κs = search needs

@@ -11,12 +11,12 @@ returns : tie.Need-returns
 unfolding itemSound
 returns c = rw (lt-ltb _ _ (c .before .if1 .taken)) (c .names .ensures)
 
-zero-item-requires : tie.Need-zero-item-requires
-zero-item-requires c κs = search needs
+zero-sending-requires : tie.Need-zero-sending-requires
+zero-sending-requires c κs = search needs
 
 returns-2 : tie.Need-returns-2
 unfolding itemSound
-returns-2 c = rw (le-ltb _ _ (c .before .if1 .left)) (c .zero-item .ensures)
+returns-2 c = rw (le-ltb _ _ (c .before .if1 .left)) (c .zero-sending .ensures)
 
 pub item-sound-spec : {M : Type 1} → statement M
-item-sound-spec = tie.close (tie.spec names-requires returns zero-item-requires returns-2)
+item-sound-spec = tie.close (tie.spec names-requires returns zero-sending-requires returns-2)

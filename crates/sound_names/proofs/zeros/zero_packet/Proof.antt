@@ -2,8 +2,11 @@ use borrow.Author.Needs.{needs}
 use Rattle.sound_names.proofs.zeros.zero_packet.Statement.{statement}
 use Rattle.sound_names.proofs.zeros.zero_packet.Tie as tie
 
+zero-sending-requires : tie.Need-zero-sending-requires
+zero-sending-requires c κs = search needs
+
 returns : tie.Need-returns
-returns c = search needs
+returns c = cc
 
 pub zero-packet-spec : {M : Type 1} → statement M
-zero-packet-spec = tie.close (tie.spec returns)
+zero-packet-spec = tie.close (tie.spec zero-sending-requires returns)

@@ -10,10 +10,10 @@ use Rattle.world.proofs.hold.Hold.holds.Statement.{statement}
 use Rattle.world.proofs.hold.Hold.holds.Tie as tie
 
 abbrev Inv-loop : tie.InvT-loop
-Inv-loop sender id slot self k₀ k = Passed (λ (i : ℕ). isEntry (entryAt self i) sender id slot) 64 k
+Inv-loop sending self k₀ k = Passed (λ (i : ℕ). isEntry (entryAt self i) sending) 64 k
 
 abbrev μ-loop : tie.MeasureT-loop
-μ-loop sender id slot self k₀ k = 64 - k
+μ-loop sending self k₀ k = 64 - k
 
 loop-holds : tie.Need-loop-holds Inv-loop μ-loop
 loop-holds c = passed-none _ _
