@@ -17,7 +17,7 @@ quota-first r server slot b m g s q =
 pub equal-first : EqualFirst
 unfolding arriveOf must
 equal-first r origin place b p m e t h =
-    rw (m, e, t, or-right (faulty r (p .to)) (holding (b .hold) (p .sender) (p .id) (p .slot)) h)
+    rw (m, e, t, or-right (faulty r (p .to)) (holding (b .hold) (p .sending)) h)
 
 pub recall-first : RecallFirst
 unfolding forgeReceiveOf forgeReceiveFound forgeReceiveTo must

@@ -17,7 +17,7 @@ use Rattle.protocol.specs.Quiet.{outgoingQuiet, stirs, holdQuiet, server
 abbrev stirsAt : World → ℕ → ℕ → Bool
 stirsAt w s k =
     let e = entryAt (holdOf w s) k in
-    stirs (tableOf (w .executions) (e .sender)) (nextOf (deliveredOf w s)) e
+    stirs (tableOf (w .executions) (e .sending .sender)) (nextOf (deliveredOf w s)) e
 
 -- a correct server of a quiet world has none
 still : (w : World) (s k : ℕ) → s < servers → correct (w .roster) s ≡ true → k < holdPlaces → quiet w ≡ true

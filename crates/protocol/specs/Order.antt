@@ -27,7 +27,7 @@ QuotaFirst =
 abbrev pub EqualFirst : Type 0
 EqualFirst =
     (r : Roster) (origin place : ℕ) (b : Boxes) (p : Packet) → member r origin ≡ true
-    → packetAt (b .outgoing) place ≡ p → p .there ≡ true → holding (b .hold) (p .sender) (p .id) (p .slot) ≡ true
+    → packetAt (b .outgoing) place ≡ p → p .there ≡ true → holding (b .hold) (p .sending) ≡ true
     → arriveOf r origin place b .answer ≡ Dropped
 
 -- forge receive: a server that has called is answered 13, whatever digest it gives

@@ -55,5 +55,5 @@ quiet w = every (λ (s : ℕ). serverQuiet w s) servers
 abbrev pub StirringStays : Type 0
 StirringStays =
     (w : World) (s k : ℕ) (e : Entry) → s < servers → correct (w .roster) s ≡ true → k < holdPlaces
-    → entryAt (holdOf w s) k ≡ e → stirs (tableOf (w .executions) (e .sender)) (nextOf (deliveredOf w s)) e ≡ true
+    → entryAt (holdOf w s) k ≡ e → stirs (tableOf (w .executions) (e .sending .sender)) (nextOf (deliveredOf w s)) e ≡ true
     → quiet w ≡ false
