@@ -1,41 +1,27 @@
 -- What a run's fate tells of the listing. Assumes nothing.
 use mathlib.Core.Path.{_≡_, refl, sym, ap, _∙_}
-use mathlib.Core.Bool.{Bool, true, false, cond, not, _&&_}
 use mathlib.Core.List.{List, [], _∷_, _++_}
-use Prim.Native.Nat.{ℕ, zero, suc, _+_, _-_, _*_, _≤_}
+use Prim.Native.Nat.{ℕ, suc, _+_, _-_, _*_, _≤_}
 use native.Mathlib.Omega.{arith}
-use borrow.Author.Tests.{leb-true}
-use lib.Count.{ones}
-use lib.Dec.{eqb, leb}
+use lib.Dec.{leb}
 use lib.ListN.{length, take, drop, length-append}
 use lib.Seq.{take-at}
-use Rattle.search.specs.Tests.{must}
 use Rattle.world.specs.declared.World.{World}
-use Rattle.world.specs.declared.roster.Roster.{Roster}
 use Rattle.world.specs.Sizes.{servers}
-use Rattle.world.specs.Roster.{strays, faults, goodRoster}
 use Rattle.world.specs.Fresh.{freshWorld}
-use Rattle.format.specs.declared.kinds.Act.the-variants as act
-use Rattle.format.specs.declared.kinds.Kind.{Kind}
-use Rattle.format.specs.declared.kinds.Kind.the-variants as kind
-use Rattle.format.specs.declared.kinds.Form.{Form}
-use Rattle.format.specs.declared.kinds.Form.the-variants.{Start, Step, Bad}
 use Rattle.format.specs.declared.refusal.Refusal.{Refusal}
-use Rattle.format.specs.declared.refusal.Refusal.the-variants.{TooLong, Cut, BadStart, OutSmall}
-use Rattle.format.specs.declared.reading.Read.{Read}
-use Rattle.format.specs.declared.reading.Read.the-variants as read
+use Rattle.format.specs.declared.refusal.Refusal.the-variants.{OutSmall}
 use Rattle.format.specs.declared.verdict.Verdict.{Verdict}
 use Rattle.format.specs.declared.verdict.Verdict.the-variants.{Accepted, Refused}
 use Rattle.format.specs.Fields.{byteAt}
-use Rattle.format.proofs.Reader.{known}
-use Rattle.format.specs.Records.{formOf, readBy, readAt, Asked, Request, Multicast, Arrive, Propose, Settle, Deliver, ForgePacket, ForgeSend, ForgeReceive, askedBy, askedAfter, asked}
+use Rattle.format.specs.Records.{Asked, Request, Multicast, Arrive, Propose, Settle, Deliver, ForgePacket, ForgeSend, ForgeReceive, asked}
 use Rattle.format.specs.Judging.{refusalCode, scheduleMost, startRoster, judged}
 use Rattle.protocol.specs.declared.ending.Ran.{Ran}
 use Rattle.protocol.specs.Steps.{stepOf, worldAfter, answersOf}
 use Rattle.protocol.specs.Runs.{withRoom, startWorld, ranBy, ranOf, writtenOf}
 use Rattle.format.proofs.Judged.{never, must-accepts, accepted-means, few-records}
 use Rattle.world.proofs.Seats.{few-servers}
-use Rattle.listing.specs.Longest.{recordBytesLeast}
+use Rattle.protocol.specs.Longest.{recordBytesLeast}
 use Rattle.protocol.specs.Listing.{refusedLine, runLines, listingBy, listingOf}
 
 -- an answer for each

@@ -8,3 +8,4 @@ pub mod Sound
 pub mod Quiet
 pub mod Runs
 pub mod Listing
+pub mod Longest

@@ -1,9 +1,6 @@
 // What a caller may ask of a world: whether it is quiet.
 ghost use mathlib.Core.Path.{_≡_};
 ghost use Rattle.protocol.specs.Quiet.{quiet};
-
-mod stillness;
-
 use world::Roster;
 use world::World;
 
@@ -21,7 +18,7 @@ pub fn quiet(w: World) -> bool
         let o = w.outgoing[i];
         let h = w.holds[i];
         let next = w.delivered[i].next();
-        if !stillness::server_quiet(w.roster, s, tables, next, o, h) {
+        if !quiet_boxes::server_quiet(w.roster, s, tables, next, o, h) {
             break false;
         }
         s += 1;

@@ -4,7 +4,7 @@ mod running;
 mod starting;
 mod stepping;
 
+pub use quiet::quiet;
 pub use running::run;
-pub use soundness::quiet;
 pub use starting::start;
 pub use stepping::step;

@@ -1,4 +1,4 @@
-// The boxes of one server in a sound world: its packets under way, the entries that it holds, and what it has delivered.
+// The boxes of one server in a sound world: its packets under way, the entries that it holds, what it has delivered.
 mod entries;
 mod items;
 mod packets;

@@ -1,4 +1,4 @@
-// What every test of a sound or quiet world asks: what packets, entries and items name, and whether a place is all zeros.
+// What every test of a sound or quiet world asks: what packets, entries and items name, and which places are all zeros.
 mod naming;
 mod zeros;
 

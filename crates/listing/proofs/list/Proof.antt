@@ -1,6 +1,5 @@
 use borrow.Author.Needs.{needs}
-use mathlib.Core.Path.{_∙_}
-use Rattle.listing.proofs.Placing.{listed, wrote-length}
+use Rattle.writing.proofs.Placing.{listed, wrote-length}
 use Rattle.listing.proofs.Fates.{accepted, refused}
 use Rattle.listing.proofs.list.Statement.{statement}
 use Rattle.listing.proofs.list.Tie as tie
