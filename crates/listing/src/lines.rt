@@ -11,8 +11,8 @@ use crate::texts::put_byte;
 use crate::texts::put_number;
 use crate::texts::put_word;
 use world::Delivered;
-use world::Item;
 use world::Roster;
+use world::Sending;
 use world::World;
 
 // `refused NUMBER OFFSET`, alone.
@@ -76,7 +76,7 @@ fn put_steps(text: &mut [u8], at: usize, answers: &[u8], records: usize) -> usiz
 }
 
 // SENDER.ID.SLOT, behind a blank.
-fn put_item(text: &mut [u8], at: usize, item: Item) -> usize
+fn put_item(text: &mut [u8], at: usize, item: Sending) -> usize
     requires { ⌜ at ≤ listingMost ⌝ }
     ensures { λ r. ⌜ Wrote (now (text .entry)) at (itemText item) (now (text .exit)) r ⌝ }
     ensures { λ r. ⌜ r ≤ at + itemMost ⌝ }
