@@ -16,7 +16,7 @@ use Rattle.world.specs.Sizes.{commandBytes}
 use Rattle.world.specs.Roster.{goodRoster}
 use Rattle.world.specs.Outgoing.{packetAt}
 use Rattle.world.specs.Hold.{entryAt}
-use Rattle.world.specs.Boxes.{seat}
+use Rattle.world.specs.Boxes.{seat, withRequests, noPackets, noEntries}
 use Rattle.protocol.specs.declared.boxes.Ruling.{Ruling}
 use Rattle.protocol.specs.declared.boxes.Requested.{Requested}
 use Rattle.protocol.specs.Answers.{answerCode}
@@ -38,7 +38,7 @@ use Rattle.format.specs.Records.{formOf, readAt, Asked, askedFrom, askedBy, ask
 use Rattle.format.specs.Judging.{judged}
 use Rattle.format.proofs.Reader.{Known, known, isRecord}
 use Rattle.protocol.specs.declared.boxes.Touch.{Touch}
-use Rattle.protocol.specs.Steps.{ends, withRequests, putBack, boxesOf, stepOf, worldAfter, answersOf}
+use Rattle.protocol.specs.Steps.{ends, putBack, boxesOf, stepOf, worldAfter, answersOf}
 use Rattle.rehearsal.specs.Acts.{touchBy, touchOf, actOf}
 use Rattle.rehearsal.proofs.Lenses.{lens}
 
@@ -122,13 +122,13 @@ store-turn s b n j v r ej er en = rw (ej, en, er)
 
 -- the boxes that an act touches
 touch-is : (s : List ℕ) (b x y i : ℕ) (a : Act) (v : World) (p : Packet) (e : Entry) (t : Touch) → x ≡ byteAt s b → y ≡ byteAt s (b + 1) → i ≡ seat x
-    → p ≡ packetAt (getD (v .outgoing) i (record { places = [] })) y → e ≡ entryAt (getD (v .holds) i (record { places = [] })) y → t ≡ touchBy a x y p e → t ≡ touchOf v a s b
+    → p ≡ packetAt (getD (v .outgoing) i noPackets) y → e ≡ entryAt (getD (v .holds) i noEntries) y → t ≡ touchBy a x y p e → t ≡ touchOf v a s b
 touch-is s b x y i a v p e t ex ey ei ep ee et = rw (et, ep, ee, ei, ex, ey)
 
 -- an act's turn: the boxes are ends out, its rule is applied, and they are put back
 pub act-turn : (s : List ℕ) (b n x y i : ℕ) (j : Kind) (a : Act) (v : World) (p : Packet) (e : Entry) (t : Touch) (r : Ruling) → j ≡ kind.Act a
-    → x ≡ byteAt s b → y ≡ byteAt s (b + 1) → i ≡ seat x → p ≡ packetAt (getD (v .outgoing) i (record { places = [] })) y
-    → e ≡ entryAt (getD (v .holds) i (record { places = [] })) y → t ≡ touchBy a x y p e → r ≡ actOf (v .roster) a s b (boxesOf v t) → n ≡ answerCode (r .answer)
+    → x ≡ byteAt s b → y ≡ byteAt s (b + 1) → i ≡ seat x → p ≡ packetAt (getD (v .outgoing) i noPackets) y
+    → e ≡ entryAt (getD (v .holds) i noEntries) y → t ≡ touchBy a x y p e → r ≡ actOf (v .roster) a s b (boxesOf v t) → n ≡ answerCode (r .answer)
     → ends n (putBack v t (r .boxes)) ≡ stepOf v (askedFrom j s b)
 act-turn s b n x y i j a v p e t r ej ex ey ei ep ee et er en =
     let z : t ≡ touchOf v a s b = touch-is s b x y i a v p e t ex ey ei ep ee et in

@@ -18,13 +18,13 @@ use Rattle.format.specs.declared.kinds.Act.{Act}
 use Rattle.format.specs.declared.kinds.Act.the-variants.{Multicast, Arrive, Propose, Settle, Deliver, ForgePacket, ForgeSend, ForgeReceive}
 use Rattle.format.specs.Fields.{byteAt, twoAt, bytesAt}
 use Rattle.protocol.specs.declared.boxes.Touch.{Touch}
-use Rattle.protocol.specs.Steps.{touch}
+use Rattle.protocol.specs.Steps.{touch, touchFor}
 
 abbrev pub touchBy : Act → ℕ → ℕ → Packet → Entry → Touch
 touchBy Multicast x y p e = touch x x x y
 touchBy Arrive x y p e = touch x (p .to) x 0
-touchBy Propose x y p e = touch x x (e .sender) (e .slot)
-touchBy Settle x y p e = touch x x (e .sender) (e .slot)
+touchBy Propose x y p e = touchFor x (e .sending)
+touchBy Settle x y p e = touchFor x (e .sending)
 touchBy Deliver x y p e = touch x x x 0
 touchBy ForgePacket x y p e = touch x x x 0
 touchBy ForgeSend x y p e = touch x x x 0

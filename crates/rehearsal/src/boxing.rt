@@ -63,14 +63,14 @@ pub(crate) fn touch_by(act: Act, x: u8, y: u8, p: Packet, e: Entry) -> Touch
         Act::Propose => Touch {
             server,
             holder: server,
-            sender: seat_of(e.sender),
-            slot: slot_of(e.slot),
+            sender: seat_of(e.sending.sender),
+            slot: slot_of(e.sending.slot),
         },
         Act::Settle => Touch {
             server,
             holder: server,
-            sender: seat_of(e.sender),
-            slot: slot_of(e.slot),
+            sender: seat_of(e.sending.sender),
+            slot: slot_of(e.sending.slot),
         },
         Act::Deliver => Touch {
             server,

@@ -10,19 +10,20 @@ use lib.Dec.{ltb}
 use lib.ListN.{length, getD, take}
 use lib.Seq.{take-suc, take-all}
 use Rattle.world.specs.declared.World.{World}
-use Rattle.world.specs.declared.delivered.Item.{Item}
-use Rattle.world.specs.Delivered.{unusedItem}
+use Rattle.world.specs.declared.sending.Sending.{Sending}
+use Rattle.world.specs.Sending.{noSending}
+use Rattle.world.specs.Boxes.{noItems}
 use Rattle.writing.specs.Writing.{Wrote}
 use Rattle.protocol.specs.Listing.{itemText, itemTexts, serverLine, serverLines}
 use Rattle.writing.proofs.Placing.{wrote-none, then}
 
 -- the items of a server
-items-append : (a b : List Item) → itemTexts (a ++ b) ≡ itemTexts a ++ itemTexts b
+items-append : (a b : List Sending) → itemTexts (a ++ b) ≡ itemTexts a ++ itemTexts b
 unfolding itemTexts
 items-append [] b = refl
 items-append (x ∷ a) b = rw (items-append a b, ← append-assoc (itemText x))
 
-items-one : (i : Item) → itemText i ≡ itemTexts (i ∷ [])
+items-one : (i : Sending) → itemText i ≡ itemTexts (i ∷ [])
 unfolding itemTexts
 items-one i = sym (append-nil (itemText i))
 
@@ -30,13 +31,13 @@ pub items-none : (l : List ℕ) (at : ℕ) → Wrote l at (itemTexts []) l at
 unfolding itemTexts
 items-none l at = wrote-none l at
 
-pub items-more : (l m n : List ℕ) (items : List Item) (at i e f : ℕ) → i < length items → Wrote l at (itemTexts (take i items)) m e → Wrote m e (itemText (getD items i unusedItem)) n f
+pub items-more : (l m n : List ℕ) (items : List Sending) (at i e f : ℕ) → i < length items → Wrote l at (itemTexts (take i items)) m e → Wrote m e (itemText (getD items i noSending)) n f
     → Wrote l at (itemTexts (take (i + 1) items)) n f
 items-more l m n items at i e f h p q =
-    rw (add-one i, take-suc items i unusedItem, items-append (take i items) (getD items i unusedItem ∷ []), ← items-one) (then p q)
+    rw (add-one i, take-suc items i noSending, items-append (take i items) (getD items i noSending ∷ []), ← items-one) (then p q)
 
 -- all items that there are, where more are asked for
-pub items-all : (items : List Item) (n k : ℕ) (t : Bool) → ltb n k ≡ t → length items ≡ k → take (min n k) items ≡ take n items
+pub items-all : (items : List Sending) (n k : ℕ) (t : Bool) → ltb n k ≡ t → length items ≡ k → take (min n k) items ≡ take n items
 items-all items n k true e h = let l : n < k = ltb-true n k e in let m : min n k ≡ n = omega arith in rw m
 items-all items n k false e h =
     let l : k ≤ n = ltb-false n k e in
@@ -49,7 +50,7 @@ unfolding serverLines
 servers-none l w at = wrote-none l at
 
 pub servers-more : (l m n : List ℕ) (w : World) (at s e f : ℕ) → Wrote l at (serverLines w s) m e
-    → Wrote m e (serverLine (w .roster) s (getD (w .delivered) s (record { items = []; count = 0 }))) n f → Wrote l at (serverLines w (s + 1)) n f
+    → Wrote m e (serverLine (w .roster) s (getD (w .delivered) s noItems)) n f → Wrote l at (serverLines w (s + 1)) n f
 unfolding serverLines
 servers-more l m n w at s e f p q = rw (add-one s) (then p q)
 

@@ -8,15 +8,15 @@ ghost use Rattle.writing.specs.Writing.{Wrote};
 ghost use Rattle.protocol.specs.Longest.{itemMost, itemsMost, serverMost, serversMost, listingMost};
 ghost use Rattle.protocol.specs.Listing.{itemText, itemTexts, serverLine, serverLines};
 use world::Delivered;
-use world::Item;
 use world::Roster;
+use world::Sending;
 use world::World;
 use writing::put_byte;
 use writing::put_number;
 use writing::put_word;
 
 // SENDER.ID.SLOT, behind a blank.
-fn put_item(text: &mut [u8], at: usize, item: Item) -> usize
+fn put_item(text: &mut [u8], at: usize, item: Sending) -> usize
     requires { ⌜ at ≤ listingMost ⌝ }
     ensures { λ r. ⌜ Wrote (now (text .entry)) at (itemText item) (now (text .exit)) r ⌝ }
     ensures { λ r. ⌜ r ≤ at + itemMost ⌝ }
