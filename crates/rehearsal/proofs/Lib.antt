@@ -1,3 +1,4 @@
 pub mod Lenses
 pub mod Going
+pub mod Public
 pub mod Unique

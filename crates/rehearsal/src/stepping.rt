@@ -84,7 +84,7 @@ fn act_in(w: World, a: Act, s: &[u8], b: usize) -> Outcome
     }
 }
 
-// The step of one record, from a sound world; bytes behind the record are ignored.
+// The step of one record, from a sound world; bytes after the record are ignored.
 pub fn step(w: World, s: &[u8]) -> Outcome
     ensures { λ r. ⌜ r ≡ publicStep w (now (s .entry)) ⌝ }
 {
@@ -94,22 +94,26 @@ pub fn step(w: World, s: &[u8]) -> Outcome
             world: w,
         };
     }
-    match read_at(s, 0) {
-        Read::End => Outcome {
-            code: Refusal::Cut.code(),
-            world: w,
-        },
-        Read::Refused(why) => Outcome {
+    let read = read_at(s, 0);
+    let Read::Record {
+        kind,
+        start,
+        next: _,
+    } = read
+    else {
+        let Read::Refused(why) = read else {
+            return Outcome {
+                code: Refusal::Cut.code(),
+                world: w,
+            };
+        };
+        return Outcome {
             code: why.code(),
             world: w,
-        },
-        Read::Record {
-            kind,
-            start,
-            next: _,
-        } => match kind {
-            Kind::Request => store_in(w, s, start),
-            Kind::Act(a) => act_in(w, a, s, start),
-        },
+        };
+    };
+    match kind {
+        Kind::Request => store_in(w, s, start),
+        Kind::Act(a) => act_in(w, a, s, start),
     }
 }

@@ -9,6 +9,6 @@ pub use naming::own_execution;
 pub use naming::seat;
 pub use zeros::zero_entry;
 pub use zeros::zero_execution;
-pub use zeros::zero_sending;
 pub use zeros::zero_packet;
 pub use zeros::zero_request;
+pub use zeros::zero_sending;
