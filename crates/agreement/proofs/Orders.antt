@@ -46,7 +46,7 @@ orders r e m =
     record { id = refl; digest = refl; called = refl; mask = refl; number = inr (eqb-true (e .number) 0 (a .0), refl, refl) })
     (λ _. record { id = refl; digest = refl; called = refl; mask = refl; number = inl (refl, refl) })
 
--- an execution as the orderer makes it, and as it leaves it behind a call
+-- an execution as the orderer makes it, and as it leaves it after a call
 abbrev pub opening : Roster → ℕ → ℕ → List ℕ → ℕ → Execution
 opening r s id digest m = ordered r (opened s id digest) m .execution
 

@@ -30,7 +30,7 @@ use Rattle.agreement.proofs.Invariant.{tableAt, made, Made, Matches, Be
 use Rattle.agreement.proofs.Digests.{matches-one}
 use Rattle.agreement.proofs.Numbering.{first-one, number-one, number-some}
 
--- the place that a count of executions, one sender behind the other, comes to
+-- the place that a count of executions, one sender after the other, comes to
 record Index (i s k : ℕ) : Type 0 where
   sender : i / executionsMost ≡ s
   place : i % executionsMost ≡ k

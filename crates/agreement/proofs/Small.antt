@@ -1,4 +1,4 @@
--- Every mask of an execution has bits of the eight servers only, at a start and behind every step; `sound` looks at no other bits. Assumes nothing.
+-- Every mask of an execution has bits of the eight servers only, at a start and after every step; `sound` looks at no other bits. Assumes nothing.
 use mathlib.Core.List.{List}
 use Prim.Native.Nat.{ℕ, _+_, _^_, _<_}
 use native.Mathlib.Omega.{arith}

@@ -1,6 +1,7 @@
--- Demand 3: "From a fresh start with at most f liars, after any schedule: one list of sendings, one for each number in that order; what a correct
--- server delivered is a beginning of it, no sending twice; every numbered request was held in time by a correct server whose seal on it was good;
--- in a quiet world every correct server has delivered all of it." Besides, the list only grows.
+-- Demand 3, over the rows of steps that start from a fresh world with at most f faulty servers. There is a list of
+-- sendings, the one of number k + 1 at place k; each correct server has delivered a beginning of it, and no sending is
+-- in it twice; of each, some correct server with a good seal held it by the step that gave the number; and in a quiet
+-- world nobody correct lacks any of it. Besides, the list only grows.
 use Prim.Native.Nat.{ℕ, zero, suc, _+_, _*_, _/_, _%_, _<_, _≤_}
 use mathlib.Core.Path.{_≡_}
 use mathlib.Core.Bool.{true, _&&_}
@@ -35,13 +36,14 @@ abbrev pub placeOf : Found → ℕ
 placeOf (At k) = k
 placeOf Nothing = 0
 
--- the execution that has a number; the executions are counted one sender behind the other
+-- the execution that has a number; the executions are counted one sender after the other
 abbrev pub numberedAt : List Executions → ℕ → ℕ
 numberedAt ts number = placeOf (first (λ (i : ℕ). eqb (numberAt ts i) number) (servers * executionsMost))
 
 -- the slot of the request that has a digest
 abbrev pub slotOf : Requests → List ℕ → ℕ
-slotOf q digest = placeOf (first (λ (k : ℕ). ltb k (q .count) && sameDigest (requestAt q k .digest) digest) requestsMost)
+slotOf q digest =
+    placeOf (first (λ (k : ℕ). ltb k (q .count) && sameDigest (requestAt q k .digest) digest) requestsMost)
 
 -- the sending that has a number, as a server would deliver it (`Agreed.numbers` below says that it is the one)
 unfoldable pub sendingOf : World → ℕ → Sending
@@ -50,7 +52,7 @@ sendingOf w number =
     let x = executionAt (executionsOf w (i / executionsMost)) (i % executionsMost) in
     record { id = x .id; sender = i / executionsMost; slot = slotOf (w .requests) (x .digest) }
 
--- "one list of sendings, one for each number": 1, 2, 3 to the last one given
+-- the list: the sendings of numbers 1, 2, 3 to the last one given
 unfoldable pub sendingsTo : World → ℕ → List Sending
 sendingsTo w zero = []
 sendingsTo w (suc m) = sendingsTo w m ++ sendingOf w (m + 1) ∷ []
@@ -67,7 +69,9 @@ pub record Numbered (w : World) (s : Sending) (n : ℕ) : Type 0 where
   pub found : executionOf (executionsOf w (s .sender)) (s .id) ≡ At place
   pub number : executionAt (executionsOf w (s .sender)) place .number ≡ n
   pub stored : s .slot < w .requests .count
-  pub digest : sameDigest (requestAt (w .requests) (s .slot) .digest) (executionAt (executionsOf w (s .sender)) place .digest) ≡ true
+  pub digest :
+      sameDigest (requestAt (w .requests) (s .slot) .digest) (executionAt (executionsOf w (s .sender)) place .digest)
+      ≡ true
 
 -- what a server has delivered
 abbrev pub deliveredBy : World → ℕ → List Sending
@@ -80,17 +84,18 @@ pub record Begins (l all : List Sending) : Type 0 where
 
 -- what holds of a world
 pub record Agreed (w : World) : Type 0 where
-  -- "one for each number in that order"
+  -- as many as there are numbers, and at place k the sending of number k + 1
   pub each : length (sendings w) ≡ w .numbered
   pub numbers : (k : ℕ) → k < w .numbered → Numbered w (sendingAt w k) (k + 1)
-  -- "no sending twice": a sending is known by its sender and id, not by its request
-  pub once : (j k : ℕ) → j < w .numbered → k < w .numbered → sendingAt w j .sender ≡ sendingAt w k .sender → sendingAt w j .id ≡ sendingAt w k .id → j ≡ k
-  -- "what a correct server delivered is a beginning of it"
+  -- no two places have one sending; it is known by its sender and id, not by its request
+  pub once : (j k : ℕ) → j < w .numbered → k < w .numbered → sendingAt w j .sender ≡ sendingAt w k .sender
+      → sendingAt w j .id ≡ sendingAt w k .id → j ≡ k
+  -- a correct server's deliveries are a beginning of the list
   pub beginning : (server : ℕ) → correct (w .roster) server ≡ true → Begins (deliveredBy w server) (sendings w)
-  -- "in a quiet world every correct server has delivered all of it"
+  -- and the whole of it where the world is quiet
   pub whole : quiet w ≡ true → (server : ℕ) → correct (w .roster) server ≡ true → deliveredBy w server ≡ sendings w
 
--- the world behind a row of steps
+-- the world after a row of steps
 unfoldable pub through : {A : Type 0} → (World → A → World) → World → List A → World
 through go w [] = w
 through go w (a ∷ l) = through go (go w a) l
@@ -102,7 +107,7 @@ pub record Vouched (w : World) (s : Sending) : Type 0 where
   pub seal : has (requestAt (w .requests) (s .slot) .seals) server ≡ true
   pub held : holding (holdOf w server) s ≡ true
 
--- "held in time": one step of the row gives the number, and the sending is vouched for in the world that this step leaves
+-- in time: one step of the row gives the number, and the sending is vouched for in the world that this step leaves
 pub record InTime {A : Type 0} (go : World → A → World) (w : World) (l : List A) (number : ℕ) : Type 0 where
   pub earlier : List A
   pub now : A

@@ -1,4 +1,5 @@
--- What `Agreed` shuts out: three kinds of worlds of which it must not hold. Nothing else is asked of these worlds, sound or not.
+-- What `Agreed` shuts out: three kinds of worlds of which it must not hold. Nothing else is asked of these worlds,
+-- sound or not.
 use Prim.Native.Nat.{ℕ, _<_}
 use mathlib.Core.Path.{_≡_}
 use mathlib.Core.Logic.{_≢_}

@@ -1,5 +1,5 @@
-// What C and Rust callers link (`rt staticlib bridge`): numbers, lent bytes, and worlds by value. What passes how is written down on the
-// callers' side, in `tests/bridge`.
+// What C and Rust callers link (`rt staticlib bridge`): numbers, lent bytes, and worlds by value. What passes how is
+// written down on the callers' side, in `tests/bridge`.
 ghost use mathlib.Core.Path.{_≡_};
 ghost use lib.ListN.{length};
 ghost use Rattle.fips180.specs.Digest.{digestAnswer};
@@ -11,8 +11,8 @@ use format::Verdict;
 use protocol::Outcome;
 use world::World;
 
-// How a run ended: 0 and the count of records behind the start, or a refusal's code and offset; and the world at its end, a world of zeros
-// where it is refused.
+// How a run ended: 0 and the count of records after the start, or a refusal's code and offset; and the world at its
+// end, a world of zeros where it is refused.
 #[repr(C)]
 pub struct Run {
     pub offset: usize,
@@ -49,7 +49,7 @@ pub extern "C" fn staubharfe_step(world: World, bytes: &[u8]) -> Outcome
     rehearsal::step(world, bytes)
 }
 
-// Runs a schedule and writes one answer for each record behind the start.
+// Runs a schedule and writes one answer for each record after the start.
 #[no_mangle]
 pub extern "C" fn staubharfe_run(schedule: &[u8], answers: &mut [u8]) -> Run
     ensures { λ r. ⌜ r ≡ runOf (now (schedule .entry)) (length (now (answers .entry))) ⌝ }

@@ -1,6 +1,7 @@
--- Document 01, last paragraph: "A single table, under one theorem, proves A, D, E, H to L of the definitions; the rest is run." A row has the
--- bytes of a schedule and the whole listing of it: each answer, each item delivered and the count of numbers given, or the refusal and its
--- offset. A is the document's to the byte ("The listing"). Of the others ("Edges") it says what is quoted, and its rules give the rest.
+-- Document 01, last paragraph: its case A and edges D, E and H to L, proved of the definitions as one table under one
+-- theorem. A row has the bytes of a schedule and the whole listing of it: each answer, each item delivered and the
+-- count of numbers given, or the refusal and its offset. A is the document's to the byte ("The listing"). Of the
+-- others ("Edges") the document says what happens, and its rules give the rest.
 use Prim.Native.String.{String, _++_}
 use mathlib.Core.Path.{_≡_}
 use mathlib.Core.List.{List, [], _∷_}
@@ -14,11 +15,13 @@ pub record Case : Type 0 where
   pub schedule : List String
   pub listing : List String
 
--- "Case A, 72 bytes", and what "it prints"
+-- case A: three correct servers, one request, delivered by all
 abbrev pub caseA : Case
 caseA = record {
   name = "A";
-  schedule = "01 03 00" ∷ "02 05 00000001 07" ∷ repeated 24 "41" ∷ "03 00 00" ∷ "04 00 00" ∷ "05 01 00" ∷ "06 01 00" ∷ "07 01" ∷ "07 00"
+  schedule =
+      "01 03 00" ∷ "02 05 00000001 07" ∷ repeated 24 "41" ∷ "03 00 00" ∷ "04 00 00" ∷ "05 01 00" ∷ "06 01 00"
+      ∷ "07 01" ∷ "07 00"
       ∷ "06 00 00" ∷ "07 00" ∷ "04 01 00" ∷ "05 02 00" ∷ "06 02 00" ∷ "07 02" ∷ "04 00 01" ∷ "05 02 00" ∷ [];
   listing = "world 3 1 2 15"
       ∷ "step 1 0" ∷ "step 2 0" ∷ "step 3 0" ∷ "step 4 0" ∷ "step 5 0" ∷ "step 6 0"
@@ -29,7 +32,7 @@ caseA = record {
       ∷ "numbered 1" ∷ [];
 }
 
--- "D: n 1, multicast, settle, deliver: number 1."
+-- edge D: a server alone gives itself number 1
 abbrev pub edgeD : Case
 edgeD = record {
   name = "D";
@@ -39,7 +42,8 @@ edgeD = record {
       ∷ "server 0 1 0.1.0" ∷ "numbered 1" ∷ [];
 }
 
--- "E: 16 forged sends pass, the next is 10." They are of server 2, the faulty one of three, with ids from 1 on.
+-- edge E: a seventeenth forged send is over the quota. They are of server 2, the faulty one of three, with ids from 1
+-- on.
 abbrev pub forgedSend : String → String
 forgedSend id = "09 02 00" ++ (id ++ repeated 32 id)
 
@@ -47,8 +51,10 @@ abbrev pub edgeE : Case
 edgeE = record {
   name = "E";
   schedule = "01 03 04"
-      ∷ forgedSend "01" ∷ forgedSend "02" ∷ forgedSend "03" ∷ forgedSend "04" ∷ forgedSend "05" ∷ forgedSend "06" ∷ forgedSend "07" ∷ forgedSend "08"
-      ∷ forgedSend "09" ∷ forgedSend "0A" ∷ forgedSend "0B" ∷ forgedSend "0C" ∷ forgedSend "0D" ∷ forgedSend "0E" ∷ forgedSend "0F" ∷ forgedSend "10"
+      ∷ forgedSend "01" ∷ forgedSend "02" ∷ forgedSend "03" ∷ forgedSend "04" ∷ forgedSend "05" ∷ forgedSend "06"
+      ∷ forgedSend "07" ∷ forgedSend "08"
+      ∷ forgedSend "09" ∷ forgedSend "0A" ∷ forgedSend "0B" ∷ forgedSend "0C" ∷ forgedSend "0D" ∷ forgedSend "0E"
+      ∷ forgedSend "0F" ∷ forgedSend "10"
       ∷ forgedSend "11" ∷ [];
   listing = "world 3 1 2 17"
       ∷ "step 1 0" ∷ "step 2 0" ∷ "step 3 0" ∷ "step 4 0" ∷ "step 5 0" ∷ "step 6 0" ∷ "step 7 0" ∷ "step 8 0"
@@ -58,7 +64,7 @@ edgeE = record {
       ∷ "numbered 0" ∷ [];
 }
 
--- "H: the same request twice: second is 8."
+-- edge H: a request that is stored already
 abbrev pub edgeH : Case
 edgeH = record {
   name = "H";
@@ -70,23 +76,25 @@ edgeH = record {
       ∷ "numbered 0" ∷ [];
 }
 
--- "I: empty schedule: 21."
+-- edge I: no bytes at all
 abbrev pub edgeI : Case
 edgeI = record { name = "I"; schedule = []; listing = "refused 21 0" ∷ [] }
 
--- "J: 01 03: 24 at 0."
+-- edge J: a cut start
 abbrev pub edgeJ : Case
 edgeJ = record { name = "J"; schedule = "01 03" ∷ []; listing = "refused 24 0" ∷ [] }
 
--- "K: 01 03 00 0B: 22 at 3."
+-- edge K: the first byte that is no kind
 abbrev pub edgeK : Case
 edgeK = record { name = "K"; schedule = "01 03 00 0B" ∷ []; listing = "refused 22 3" ∷ [] }
 
--- "L: a multicast without own seal: 3, and the next good one still gets id 1." Server 0 is sealed on the second request alone.
+-- edge L: a dismissed multicast uses no id. Server 0 has a good seal on the second request alone.
 abbrev pub edgeL : Case
 edgeL = record {
   name = "L";
-  schedule = "01 03 00" ∷ "02 05 00000001 06" ∷ repeated 24 "41" ∷ "02 05 00000002 07" ∷ repeated 24 "42" ∷ "03 00 00" ∷ "03 00 01"
+  schedule =
+      "01 03 00" ∷ "02 05 00000001 06" ∷ repeated 24 "41" ∷ "02 05 00000002 07" ∷ repeated 24 "42" ∷ "03 00 00"
+      ∷ "03 00 01"
       ∷ "04 00 00" ∷ "05 01 00" ∷ "06 00 00" ∷ "07 00" ∷ [];
   listing = "world 3 1 2 8"
       ∷ "step 1 0" ∷ "step 2 0"

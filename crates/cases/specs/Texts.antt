@@ -33,12 +33,12 @@ paired [] = []
 paired (high ∷ []) = []
 paired (high ∷ low ∷ l) = (nibble high * 16 + nibble low) ∷ paired l
 
--- the bytes of texts in hex, one behind the other
+-- the bytes of texts in hex, one after the other
 unfoldable pub bytes : List String → List ℕ
 bytes [] = []
 bytes (t ∷ rest) = paired (unspaced (codes t)) ++ bytes rest
 
--- a text so many times, as in "24 bytes 41"
+-- a text so many times
 unfoldable pub repeated : ℕ → String → String
 repeated zero s = ""
 repeated (suc n) s = text._++_ s (repeated n s)

@@ -25,7 +25,7 @@ impl Schedule {
         Schedule::begun(b).expanded()
     }
 
-    // The block's words, and zeros behind them.
+    // The block's words, and zeros after them.
     fn begun(b: Block) -> Schedule
         ensures { λ r. ⌜ (length (r .words) ≡ 64) × (take 16 (r .words) ≡ blockWords (b .bytes) 16) ⌝ }
     {
@@ -38,7 +38,7 @@ impl Schedule {
         Schedule { words: ws }
     }
 
-    // The words behind the block's, each from those before it.
+    // The words after the block's, each from those before it.
     fn expanded(self) -> Schedule
         ensures { λ r. ⌜ r .words ≡ scheduled (take 16 (self .words)) 48 ⌝ }
     {

@@ -1,5 +1,5 @@
-// What a program tells of its own start, reading and writing. The language has no exit status, so that a thing went wrong is said on
-// standard error, and standard output stays empty.
+// What a program tells of its own start, reading and writing. The language has no exit status, so that a thing went
+// wrong is said on standard error, and standard output stays empty.
 
 // Whether the program was started with arguments, which nobody reads; then it is told.
 pub fn has_arguments(program: &[u8]) -> bool {
@@ -14,7 +14,8 @@ pub fn has_arguments(program: &[u8]) -> bool {
     true
 }
 
-// To be called ahead of a read: no call has failed yet. (To ask for an argument that is there sets the system's error to none.)
+// To be called ahead of a read: no call has failed yet. (To ask for an argument that is there sets the system's error
+// to none.)
 pub fn begin() {
     let mut name = io::buffer();
     os::arg(0, &mut name);

@@ -9,7 +9,7 @@ use lib.Seq.{sets, getD-append-add, getD-append-seam}
 use lib.Bits.{bitAnd, and-mask}
 use Rattle.fips180.specs.Sha256.{blockBytes, be, padded, zeros, blocks}
 
--- the byte j of k, the highest first, with i behind it
+-- the byte j of k, the highest first, with i after it
 be-at : (k j i x : ℕ) → i + suc j ≡ k → getD (be k x) j 0 ≡ x / 2 ^ (8 * i) % 256
 be-at zero j i x e = absurd (omega arith)
 be-at (suc k) zero i x e = let h : k ≡ i = omega arith in rw h

@@ -33,10 +33,10 @@ use Rattle.agreement.specs.Agreement.{through, Demand, byRecord, deliveredBy}
 use Rattle.agreement.specs.Sanity.{LeftBehind}
 use Rattle.agreement.proofs.Members.{Good}
 use Rattle.agreement.proofs.Starting.{start-good}
-use Rattle.agreement.proofs.Rows.{demand}
+use Rattle.agreement.proofs.Rows.{Leads, demand}
 use Rattle.agreement.proofs.Sanity.{left-behind}
 use Rattle.agreement.proofs.Theorem.{by-record}
-use Rattle.errors.specs.Errors.{recordingWrong, droppingUnsealed, keepingOrigin, proposeFoundBy, proposeBy, stepBy, CopyIsTrue, wrongRecorded, unsealedDropped, originKept, incident, unsealed, forwarded, atEnd, EachLeads, Breaks, ErrorsBreak, RightStepsDoNot}
+use Rattle.errors.specs.Errors.{recordingWrong, droppingUnsealed, keepingOrigin, proposeFoundBy, proposeBy, stepBy, CopyIsTrue, wrongRecorded, unsealedDropped, originKept, incident, unsealed, forwarded, atEnd, Breaks, ErrorsBreak, RightStepsDoNot}
 
 found-same : (r : Roster) (server place : ℕ) (b : Boxes) (f : Found) → proposeFoundBy proposeTo r server place b f ≡ proposeFound r server place b f
 unfolding proposeFoundBy proposeFound
@@ -58,6 +58,10 @@ copy-is-true w (Deliver server) = refl
 copy-is-true w (ForgePacket from to sender id slot) = refl
 copy-is-true w (ForgeSend server id digest) = refl
 copy-is-true w (ForgeReceive server sender id digest) = refl
+
+-- the lemma on which demand 3 rests (`by-record` of agreement's Theorem, of the right steps)
+abbrev pub EachLeads : (World → Asked → World) → Type 0
+EachLeads go = (w : World) (a : Asked) → Good w → Leads w (go w a)
 
 -- demand 3 of a row of steps of which the lemma holds
 good-start : Good (freshWorld 3 4)
@@ -83,7 +87,11 @@ breaks : (go : World → Asked → World) (l : List Asked) (server : ℕ) → le
 breaks go l server e =
     let b = left (atEnd go l) server e in
     let no : Demand go (freshWorld 3 4) l → ⊥ = λ d. left-behind (atEnd go l) b (d .agreed) in
-    record { left = b; demand-false = no; lemma-false = λ leads. no (demanded go leads l) }
+    record { left = b; demand-false = no }
+
+-- so the lemma on which demand 3 rests, that each step leads from a good world to a good world, is false of such steps
+pub lemma-false : (go : World → Asked → World) (l : List Asked) → Breaks go l → EachLeads go → ⊥
+lemma-false go l b leads = b .demand-false (demanded go leads l)
 
 pub right-steps-do-not : RightStepsDoNot
 right-steps-do-not l b = left-behind (atEnd byRecord l) b (demanded byRecord by-record l .agreed)

@@ -1,5 +1,6 @@
--- Document 01, "Errors that look right". Three of the four break demand 3. Each is made here in a copy of the one rule that it changes, in one
--- place; all other rules are those of rules/specs/Rules.antt. (The fourth, "letting the mask grow after numbering", is an edit of `world`.)
+-- Document 01, "Errors that look right". Three of the four break demand 3. Each is made here in a copy of the one rule
+-- that it changes, in one place; all other rules are those of protocol/specs/Rules.antt. (The fourth, a mask that
+-- grows after its execution was numbered, is an edit of `world`.)
 use Prim.Native.Nat.{ℕ}
 use mathlib.Core.Path.{_≡_}
 use mathlib.Core.Bool.{not, _||_}
@@ -21,19 +22,20 @@ use Rattle.world.specs.Outgoing.{packetAt, packetFreed}
 use Rattle.world.specs.Hold.{entryOf, entryAt, holding, freeHold, entryAdded}
 use Rattle.world.specs.Boxes.{outgoingOf, holdOf}
 use Rattle.world.specs.Fresh.{freshWorld}
-use Rattle.protocol.specs.declared.answer.Answer.the-variants.{Done, Dropped, Wait, BadServer, WrongSide, NoSuch, NoRoom}
+use Rattle.protocol.specs.declared.answer.Answer.the-variants.{Done, Dropped, Wait, BadServer, WrongSide, NoSuch}
+use Rattle.protocol.specs.declared.answer.Answer.the-variants.{NoRoom}
 use Rattle.protocol.specs.declared.boxes.Boxes.{Boxes}
 use Rattle.protocol.specs.declared.boxes.Ruling.{Ruling}
-use Rattle.protocol.specs.Rules.{answered, withHold, withOutgoing, recorded, raised, droppedAt, requestFrom, arriveOf, proposeTo, proposeOf}
-use Rattle.format.specs.Records.{Asked, Request, Multicast, Arrive, Propose, Settle, Deliver, ForgePacket, ForgeSend, ForgeReceive}
+use Rattle.protocol.specs.Rules.{answered, withHold, withOutgoing, recorded, raised, droppedAt, requestFrom, arriveOf}
+use Rattle.protocol.specs.Rules.{proposeTo, proposeOf}
+use Rattle.format.specs.Records.{Asked, Request, Multicast, Arrive, Propose, Settle, Deliver, ForgePacket, ForgeSend}
+use Rattle.format.specs.Records.{ForgeReceive}
 use Rattle.protocol.specs.Steps.{touch, touchFor, on}
 use Rattle.agreement.specs.Agreement.{through, Demand, byRecord}
 use Rattle.agreement.specs.Sanity.{LeftBehind}
-use Rattle.agreement.proofs.Members.{Good}
-use Rattle.agreement.proofs.Rows.{Leads}
 
--- "Recording a call that gave a wrong digest, so the true copy that comes later is taken for a repeat." Where the digest differs the entry is
--- freed, as it should be, but the call is recorded as in the last line, in the mask too.
+-- The first error: a call with a wrong digest counts as a call. The entry is freed, as it should be, but the call is
+-- recorded as in the last line, in the mask too, so that the true copy looks like a second call.
 unfoldable pub recordingWrong : Roster → ℕ → ℕ → ℕ → Boxes → Ruling
 recordingWrong r server place k b =
     let x = executionAt (b .executions) k in
@@ -42,7 +44,7 @@ recordingWrong r server place k b =
     (must (sameDigest (b .request .digest) (x .digest)) (droppedAt place (recorded r server k b))
     (answered Done (recorded r server k (raised place 2 0 b)))))
 
--- "Dropping an unsealed entry at propose: that server would never deliver." Where the own seal bit is 0 the entry is freed.
+-- The third error: a server without a good seal drops the entry at propose, in place of going on silently.
 unfoldable pub droppingUnsealed : Roster → ℕ → ℕ → ℕ → Boxes → Ruling
 droppingUnsealed r server place k b =
     let x = executionAt (b .executions) k in
@@ -51,7 +53,7 @@ droppingUnsealed r server place k b =
     (must (sameDigest (b .request .digest) (x .digest)) (droppedAt place b)
     (answered Done (recorded r server k (raised place 2 0 b)))))
 
--- "Taking a claimed sender for the packet's origin." The entry is kept under the origin's name.
+-- The fourth error: whoever forwarded a packet is taken for its sender: the entry goes under the origin's name.
 unfoldable pub keepingOrigin : Roster → ℕ → ℕ → Boxes → Ruling
 keepingOrigin r origin place b =
     let p = packetAt (b .outgoing) place in
@@ -106,7 +108,8 @@ unsealedDropped = stepBy arriveOf (proposeBy droppingUnsealed)
 abbrev pub originKept : World → Asked → World
 originKept = stepBy keepingOrigin proposeOf
 
--- Three rows of steps, each that of a schedule of examples/ with n 3 and faulty 4: server 2 lies. The commands of their requests:
+-- Three rows of steps, each that of a schedule of examples/ with n 3 and faulty 4: server 2 lies. The commands of
+-- their requests:
 abbrev pub command : ℕ → List ℕ
 command filter = 2 ∷ 0 ∷ 7 ∷ 0 ∷ 0 ∷ 0 ∷ filter ∷ replicate 17 0
 
@@ -138,16 +141,10 @@ forwarded =
 abbrev pub atEnd : (World → Asked → World) → List Asked → World
 atEnd go l = through go (freshWorld 3 4) l
 
--- the lemma on which demand 3 rests (`by-record` of agreement/proofs/Theorem.antt, of the right steps): each step leads from a good world to a
--- good world
-abbrev pub EachLeads : (World → Asked → World) → Type 0
-EachLeads go = (w : World) (a : Asked) → Good w → Leads w (go w a)
-
--- after the row a correct server is left behind in a quiet world; so demand 3 of the row is false, and the lemma is false of such steps
+-- after the row a correct server is left behind in a quiet world; so demand 3 of the row is false
 pub record Breaks (go : World → Asked → World) (l : List Asked) : Type 0 where
   pub left : LeftBehind (atEnd go l)
   pub demand-false : Demand go (freshWorld 3 4) l → ⊥
-  pub lemma-false : EachLeads go → ⊥
 
 -- each copy does that
 abbrev pub ErrorsBreak : Type 0

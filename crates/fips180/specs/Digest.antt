@@ -1,4 +1,5 @@
--- Document 01, "The digest": 0 to 55 bytes have a digest; longer input is refused as 28, with 32 zero bytes.
+-- Document 01, "The digest": the public digest is that of one block, so of 55 bytes at most; more is refused as 28,
+-- with zeros.
 use Prim.Native.Nat.{ℕ}
 use mathlib.Core.Bool.{cond}
 use mathlib.Core.List.{List}

@@ -1,5 +1,5 @@
--- Document 01, "Schedule records": "Numbers of two or four bytes are big-endian." A byte past the end reads as 0; the reader never hands out a
--- record that reaches there.
+-- Document 01, "Schedule records": the fields of a record, the higher byte of a number first. A byte past the end
+-- reads as 0; the reader never hands out a record that reaches there.
 use Prim.Native.Nat.{ℕ, zero, suc, _+_, _*_, _^_}
 use mathlib.Core.List.{List, [], _∷_, _++_}
 use lib.ListN.{getD}

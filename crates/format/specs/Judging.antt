@@ -11,7 +11,8 @@ use Rattle.search.specs.Tests.{must}
 use Rattle.format.specs.declared.kinds.Form.{Form}
 use Rattle.format.specs.declared.kinds.Form.the-variants.{Start, Step, Bad}
 use Rattle.format.specs.declared.refusal.Refusal.{Refusal}
-use Rattle.format.specs.declared.refusal.Refusal.the-variants.{TooLong, NoStart, BadKind, SecondStart, Cut, BadStart, OutSmall, BadWorld}
+use Rattle.format.specs.declared.refusal.Refusal.the-variants.{TooLong, NoStart, BadKind, SecondStart, Cut}
+use Rattle.format.specs.declared.refusal.Refusal.the-variants.{BadStart, OutSmall, BadWorld}
 use Rattle.format.specs.declared.reading.Read.{Read}
 use Rattle.format.specs.declared.reading.Read.the-variants as read
 use Rattle.format.specs.declared.verdict.Verdict.{Verdict}
@@ -32,8 +33,8 @@ refusalCode BadWorld = 27
 abbrev pub scheduleMost : ℕ
 scheduleMost = 32768
 
--- 22 to 24: the first record that is refused decides, with its offset. After k records, by what stands at an offset; `fuel` is at
--- least the number of bytes that are left
+-- 22 to 24: the first record that is refused decides, with its offset. After k records, by what stands at an offset;
+-- `fuel` is at least the number of bytes that are left
 unfoldable pub scanBy : (ℕ → Verdict) → Read → ℕ → ℕ → Verdict
 scanBy more (read.Record kind b next) at k = more next
 scanBy more (read.Refused why) at k = Refused why at
@@ -64,8 +65,8 @@ recordsJudged s Bad = Refused NoStart 0
 unfoldable pub judged : List ℕ → Verdict
 judged s = must (leb (length s) scheduleMost) (Refused TooLong 0) (recordsJudged s (formOf (byteAt s 0)))
 
--- What the tests say, as promises (proofs/Judged): an accepted schedule is short, its start is good, and its count is that of the records
--- that are asked for
+-- What the tests say, as promises (proofs/Judged): an accepted schedule is short, its start is good, and its count is
+-- that of the records that are asked for
 pub record Accepts (s : List ℕ) (n : ℕ) : Type 0 where
   pub short : length s ≤ scheduleMost
   pub good : goodRoster (startRoster s) ≡ true
@@ -76,7 +77,8 @@ AcceptedMeans = (s : List ℕ) (n : ℕ) → judged s ≡ Accepted n → Accepts
 
 -- a record that is refused stands at the offset that is told
 abbrev pub RefusedThere : Type 0
-RefusedThere = (s : List ℕ) (from at : ℕ) (why : Refusal) → scanned s from ≡ Refused why at → readAt s at ≡ read.Refused why
+RefusedThere =
+    (s : List ℕ) (from at : ℕ) (why : Refusal) → scanned s from ≡ Refused why at → readAt s at ≡ read.Refused why
 
 -- and it decides before the start's own fields are looked at
 abbrev pub RecordsFirst : Type 0

@@ -51,7 +51,7 @@ kinds =
 unfoldable pub formOf : ℕ → Form
 formOf k = getD kinds k Bad
 
--- the record at an offset behind the start: whole, or the first of 22, 23 and 24 that holds there
+-- the record at an offset after the start: whole, or the first of 22, 23 and 24 that holds there
 unfoldable pub readBy : List ℕ → ℕ → Form → Read
 readBy s at Bad = Refused BadKind
 readBy s at (Start body) = Refused SecondStart
@@ -74,15 +74,18 @@ pub data Asked : Type 0 where
 
 -- of a record whose body starts at b
 abbrev pub askedFrom : Kind → List ℕ → ℕ → Asked
-askedFrom kind.Request s b = Request (byteAt s b) (fourAt s (b + 1)) (byteAt s (b + 5)) (bytesAt s (b + headBytes) commandBytes)
+askedFrom kind.Request s b =
+    Request (byteAt s b) (fourAt s (b + 1)) (byteAt s (b + 5)) (bytesAt s (b + headBytes) commandBytes)
 askedFrom (kind.Act act.Multicast) s b = Multicast (byteAt s b) (byteAt s (b + 1))
 askedFrom (kind.Act act.Arrive) s b = Arrive (byteAt s b) (byteAt s (b + 1))
 askedFrom (kind.Act act.Propose) s b = Propose (byteAt s b) (byteAt s (b + 1))
 askedFrom (kind.Act act.Settle) s b = Settle (byteAt s b) (byteAt s (b + 1))
 askedFrom (kind.Act act.Deliver) s b = Deliver (byteAt s b)
-askedFrom (kind.Act act.ForgePacket) s b = ForgePacket (byteAt s b) (byteAt s (b + 1)) (byteAt s (b + 2)) (twoAt s (b + 3)) (byteAt s (b + 5))
+askedFrom (kind.Act act.ForgePacket) s b =
+    ForgePacket (byteAt s b) (byteAt s (b + 1)) (byteAt s (b + 2)) (twoAt s (b + 3)) (byteAt s (b + 5))
 askedFrom (kind.Act act.ForgeSend) s b = ForgeSend (byteAt s b) (twoAt s (b + 1)) (bytesAt s (b + 3) digestBytes)
-askedFrom (kind.Act act.ForgeReceive) s b = ForgeReceive (byteAt s b) (byteAt s (b + 1)) (twoAt s (b + 2)) (bytesAt s (b + 4) digestBytes)
+askedFrom (kind.Act act.ForgeReceive) s b =
+    ForgeReceive (byteAt s b) (byteAt s (b + 1)) (twoAt s (b + 2)) (bytesAt s (b + 4) digestBytes)
 
 -- what the records from an offset on ask for; `fuel` is at least the number of records
 unfoldable pub askedBy : (ℕ → List Asked) → List ℕ → Read → List Asked

@@ -1,5 +1,5 @@
-// What a schedule's bytes may say: its sizes, the kinds of record, what stands at an offset, the refusals and a schedule's fate. The bytes'
-// meaning is in specs/; nothing is read here.
+// What a schedule's bytes may say: its sizes, the kinds of record, what stands at an offset, the refusals and a
+// schedule's fate. The bytes' meaning is in specs/; nothing is read here.
 mod kinds;
 mod reading;
 mod refusal;

@@ -116,7 +116,7 @@ pub run-sound : RunSound
 run-sound s k e =
     world-in (worldAfter (startWorld s) (asked s)) (run-facts (startWorld s) (asked s) (start-facts (byteAt s 1) (byteAt s 2) (accepted-means s k e .good)))
 
--- what holds of the world behind every schedule that is not refused holds of what `run` hands back
+-- what holds of the world after every schedule that is not refused holds of what `run` hands back
 module _ (P : World → Type 0) (s : List ℕ) (room k : ℕ) (h : (j : ℕ) → judged s ≡ Accepted j → P (worldAfter (startWorld s) (asked s))) where
   ran-by : (v : Verdict) → v ≡ judged s → ranBy s (withRoom room v) .verdict ≡ Accepted k → P (ranBy s (withRoom room v) .world)
   ran-by (Accepted j) e =
@@ -130,7 +130,7 @@ module _ (P : World → Type 0) (s : List ℕ) (room k : ℕ) (h : (j : ℕ) →
 pub ran-sound : RanSound
 ran-sound s room k e = ran-keeps (λ (w : World). sound w ≡ true) s room k (run-sound s) e
 
--- what holds of a world and of the world behind every step holds of the world behind a public step
+-- what holds of a world and of the world after every step holds of the world after a public step
 module _ (P : World → Type 0) (w : World) (s : List ℕ) (same : P w) (next : (a : Asked) → P (stepOf w a .world)) where
   public-by : (v : Read) → P (publicStepBy w s v .world)
   unfolding publicStepBy

@@ -1,5 +1,6 @@
--- Document 01, "Refusing a whole schedule": "Start gives sound worlds and steps keep them so." The steps are those of `rehearsal` (`stepOf`, with
--- every field of a record unrestricted), and `sound` is the test by which a step answers 27.
+-- Document 01, "Refusing a whole schedule", its last sentence: a start that is not refused is sound, and so is what
+-- any step makes of a sound world. Steps are `stepOf`'s, with every field of a record unrestricted; `sound` is the
+-- test for 27.
 use Prim.Native.Nat.{ℕ, _<_}
 use mathlib.Core.Path.{_≡_}
 use mathlib.Core.Bool.{true}
@@ -29,14 +30,14 @@ pub record Shaped (w : World) : Type 0 where
   pub entries : (s : ℕ) → s < servers → length (holdOf w s .places) ≡ holdPlaces
   pub items : (s : ℕ) → s < servers → length (deliveredOf w s .items) ≡ deliveredMost
 
--- "Start gives sound worlds": a start that 25 does not refuse
+-- a start that 25 does not refuse
 abbrev pub StartSound : Type 0
 StartSound = (n faulty : ℕ) → goodRoster (record { n = n; faulty = faulty }) ≡ true → sound (freshWorld n faulty) ≡ true
 
 abbrev pub StartShaped : Type 0
 StartShaped = (n faulty : ℕ) → goodRoster (record { n = n; faulty = faulty }) ≡ true → Shaped (freshWorld n faulty)
 
--- "and steps keep them so": whatever is asked for, and whatever the answer
+-- a step, whatever is asked for and whatever the answer
 abbrev pub StepSound : Type 0
 StepSound = (w : World) (a : Asked) → Shaped w → sound w ≡ true → sound (stepOf w a .world) ≡ true
 
@@ -51,10 +52,12 @@ RunSound = (s : List ℕ) (k : ℕ) → judged s ≡ Accepted k → sound (world
 abbrev pub RanSound : Type 0
 RanSound = (s : List ℕ) (room k : ℕ) → ranOf s room .verdict ≡ Accepted k → sound (ranOf s room .world) ≡ true
 
--- and so is the world behind a public start that answers 0 and any row of public steps, each by its bytes
+-- and so is the world after a public start that answers 0 and any row of public steps, each by its bytes
 unfoldable pub publicSteps : World → List (List ℕ) → World
 publicSteps w [] = w
 publicSteps w (s ∷ l) = publicSteps (publicStep w s .world) l
 
 abbrev pub RowSound : Type 0
-RowSound = (n faulty : ℕ) (l : List (List ℕ)) → startOf n faulty .code ≡ 0 → sound (publicSteps (startOf n faulty .world) l) ≡ true
+RowSound =
+    (n faulty : ℕ) (l : List (List ℕ)) → startOf n faulty .code ≡ 0
+    → sound (publicSteps (startOf n faulty .world) l) ≡ true

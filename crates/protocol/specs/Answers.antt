@@ -1,7 +1,9 @@
 -- Document 01, "Answers to a step".
 use Prim.Native.Nat.{ℕ}
 use Rattle.protocol.specs.declared.answer.Answer.{Answer}
-use Rattle.protocol.specs.declared.answer.Answer.the-variants.{Done, Dropped, Wait, Dismissed, BadServer, WrongSide, NoSuch, BadField, SameDigest, NoRoom, Quota, Unknown, WrongDigest, Recall}
+use Rattle.protocol.specs.declared.answer.Answer.the-variants.{Done, Dropped, Wait, Dismissed, BadServer}
+use Rattle.protocol.specs.declared.answer.Answer.the-variants.{WrongSide, NoSuch, BadField, SameDigest, NoRoom}
+use Rattle.protocol.specs.declared.answer.Answer.the-variants.{Quota, Unknown, WrongDigest, Recall}
 
 abbrev pub answerCode : Answer → ℕ
 answerCode Done = 0

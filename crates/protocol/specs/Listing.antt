@@ -33,7 +33,8 @@ digit n = 48 + n
 -- a number in decimal, the highest digit first, no zeros ahead of it: at most so many digits
 unfoldable pub decimalIn : ℕ → ℕ → List ℕ
 decimalIn zero n = []
-decimalIn (suc most) n = let high = decimalIn most (n / 10) in cond (ltb n 10) (digit n ∷ []) (high ++ digit (n % 10) ∷ [])
+decimalIn (suc most) n =
+    let high = decimalIn most (n / 10) in cond (ltb n 10) (digit n ∷ []) (high ++ digit (n % 10) ∷ [])
 
 -- 20 digits hold every number of 64 bits
 abbrev pub digitsMost : ℕ
@@ -42,7 +43,7 @@ digitsMost = 20
 abbrev pub decimal : ℕ → List ℕ
 decimal n = decimalIn digitsMost n
 
--- the words that a line starts with, a blank behind each
+-- the words that a line starts with, a blank after each
 abbrev pub refusedWord : List ℕ
 refusedWord = 114 ∷ 101 ∷ 102 ∷ 117 ∷ 115 ∷ 101 ∷ 100 ∷ blank ∷ []
 
@@ -58,20 +59,22 @@ serverWord = 115 ∷ 101 ∷ 114 ∷ 118 ∷ 101 ∷ 114 ∷ blank ∷ []
 abbrev pub numberedWord : List ℕ
 numberedWord = 110 ∷ 117 ∷ 109 ∷ 98 ∷ 101 ∷ 114 ∷ 101 ∷ 100 ∷ blank ∷ []
 
--- "faulty" behind the name of a server, and the line's end
+-- the word `faulty` after the name of a server, and the line's end
 abbrev pub faultyEnd : List ℕ
 faultyEnd = blank ∷ 102 ∷ 97 ∷ 117 ∷ 108 ∷ 116 ∷ 121 ∷ newline ∷ []
 
--- "refused NUMBER OFFSET"
+-- the only line of a refused schedule: the refusal's code and its offset
 abbrev pub refusedLine : ℕ → ℕ → List ℕ
 refusedLine number offset = refusedWord ++ (decimal number ++ blank ∷ (decimal offset ++ newline ∷ []))
 
--- "world N F T RECORDS (records after the start)"
+-- the first line: n, f, T and the count of records after the start
 abbrev pub worldLine : Roster → ℕ → List ℕ
 worldLine r records =
-    worldWord ++ (decimal (r .n) ++ blank ∷ (decimal (faults r) ++ blank ∷ (decimal (threshold r) ++ blank ∷ (decimal records ++ newline ∷ []))))
+    worldWord
+    ++ (decimal (r .n) ++ blank ∷ (decimal (faults r) ++ blank ∷ (decimal (threshold r)
+    ++ blank ∷ (decimal records ++ newline ∷ []))))
 
--- "step K ANSWER with K from 1": the lines of answers whose first is the answer of step k
+-- a line for each step, counted from 1: the lines of answers whose first is that of step k
 abbrev pub stepLine : ℕ → ℕ → List ℕ
 stepLine k answer = stepWord ++ (decimal k ++ blank ∷ (decimal answer ++ newline ∷ []))
 
@@ -79,7 +82,7 @@ unfoldable pub stepLines : ℕ → List ℕ → List ℕ
 stepLines k [] = []
 stepLines k (a ∷ l) = stepLine k a ++ stepLines (k + 1) l
 
--- "items SENDER.ID.SLOT", a blank ahead of each
+-- a delivered item: its sender, id and slot, dots between, a blank ahead
 abbrev pub itemText : Sending → List ℕ
 itemText s = blank ∷ (decimal (s .sender) ++ dot ∷ (decimal (s .id) ++ dot ∷ decimal (s .slot)))
 
@@ -87,31 +90,34 @@ unfoldable pub itemTexts : List Sending → List ℕ
 itemTexts [] = []
 itemTexts (s ∷ l) = itemText s ++ itemTexts l
 
--- "A server line has the server, then faulty, or its delivered count and items"
+-- a server's line: its name; then a word for a faulty one, or the count of its items and the items
 abbrev pub deliveredText : Delivered → List ℕ
 deliveredText d = blank ∷ (decimal (d .count) ++ (itemTexts (take (d .count) (d .items)) ++ newline ∷ []))
 
 abbrev pub serverLine : Roster → ℕ → Delivered → List ℕ
 serverLine r server d = serverWord ++ (decimal server ++ cond (faulty r server) faultyEnd (deliveredText d))
 
--- "one server line each, ascending": those of the first n
+-- the lines of the first n servers
 unfoldable pub serverLines : World → ℕ → List ℕ
 serverLines w zero = []
 serverLines w (suc n) = serverLines w n ++ serverLine (w .roster) n (getD (w .delivered) n noItems)
 
--- "numbered M"
+-- the last line: how many numbers were given
 abbrev pub numberedLine : ℕ → List ℕ
 numberedLine m = numberedWord ++ (decimal m ++ newline ∷ [])
 
 -- a run of so many records, with its answers and the world at its end
 abbrev pub runLines : ℕ → List ℕ → World → List ℕ
-runLines records answers w = worldLine (w .roster) records ++ (stepLines 1 answers ++ (serverLines w (w .roster .n) ++ numberedLine (w .numbered)))
+runLines records answers w =
+    worldLine (w .roster) records
+    ++ (stepLines 1 answers ++ (serverLines w (w .roster .n) ++ numberedLine (w .numbered)))
 
 -- the whole listing of a schedule's fate
 abbrev pub listingBy : List ℕ → Verdict → List ℕ
-listingBy s (Accepted records) = runLines records (answersOf (startWorld s) (asked s)) (worldAfter (startWorld s) (asked s))
+listingBy s (Accepted records) =
+    runLines records (answersOf (startWorld s) (asked s)) (worldAfter (startWorld s) (asked s))
 listingBy s (Refused why offset) = refusedLine (refusalCode why) offset
 
--- of a schedule with room for so many answers: "On 20 to 25 it prints refused NUMBER OFFSET", on 26 too
+-- of a schedule with room for so many answers; 26 is listed as 20 to 25 are
 unfoldable pub listingOf : List ℕ → ℕ → List ℕ
 listingOf s room = listingBy s (withRoom room (judged s))

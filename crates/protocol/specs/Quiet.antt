@@ -1,5 +1,6 @@
--- Document 01, "Quiet": "no outgoing place holds a packet for a correct server, and no correct server has (even where its step would answer
--- 9) a stage-one entry whose execution exists, a stage-two entry whose execution is numbered, or a stage-three entry with its next number."
+-- Document 01, "Quiet": nothing is under way to a correct server, and no correct server has an entry that it could go
+-- on with: one that it could propose (its execution is there), settle (it is numbered) or deliver (it has the next
+-- number). Whether there is room for that step is not asked.
 use Prim.Native.Nat.{ℕ, _<_}
 use mathlib.Core.Path.{_≡_}
 use mathlib.Core.Bool.{Bool, true, false, not, _&&_, _||_}
@@ -35,12 +36,14 @@ isNumbered t Nothing = false
 -- an entry with which its server could go on, whose next number is given
 unfoldable pub stirs : Executions → ℕ → Entry → Bool
 stirs t next e =
-    (eqb (e .stage) 1 && isFound (ownExecution t (e .sending))) || (eqb (e .stage) 2 && isNumbered t (ownExecution t (e .sending)))
+    (eqb (e .stage) 1 && isFound (ownExecution t (e .sending)))
+    || (eqb (e .stage) 2 && isNumbered t (ownExecution t (e .sending)))
     || (eqb (e .stage) 3 && eqb (e .number) next)
 
 -- no entry of a server, whose next number is given, with which it could go on
 unfoldable pub holdQuiet : List Executions → ℕ → Hold → Bool
-holdQuiet ts next h = every (λ (k : ℕ). not (stirs (tableOf ts (entryAt h k .sending .sender)) next (entryAt h k))) holdPlaces
+holdQuiet ts next h =
+    every (λ (k : ℕ). not (stirs (tableOf ts (entryAt h k .sending .sender)) next (entryAt h k))) holdPlaces
 
 -- the boxes of one server
 unfoldable pub serverQuiet : World → ℕ → Bool
@@ -55,5 +58,6 @@ quiet w = every (λ (s : ℕ). serverQuiet w s) servers
 abbrev pub StirringStays : Type 0
 StirringStays =
     (w : World) (s k : ℕ) (e : Entry) → s < servers → correct (w .roster) s ≡ true → k < holdPlaces
-    → entryAt (holdOf w s) k ≡ e → stirs (tableOf (w .executions) (e .sending .sender)) (nextOf (deliveredOf w s)) e ≡ true
+    → entryAt (holdOf w s) k ≡ e
+    → stirs (tableOf (w .executions) (e .sending .sender)) (nextOf (deliveredOf w s)) e ≡ true
     → quiet w ≡ false

@@ -1,5 +1,6 @@
--- Document 01, "Steps, with tests in order". Each rule is a definition over the boxes that its step touches; the words in quotes are the
--- document's. A test is `must WHAT-HOLDS ANSWER-IF-NOT NEXT`.
+-- Document 01, "Steps, with tests in order": a rule for each kind, its tests in the document's order. A test is `must
+-- WHAT-HOLDS ANSWER-IF-NOT NEXT`. A rule speaks of the boxes that its step touches; which ones these are is in
+-- `Steps`.
 use Prim.Native.Nat.{ℕ, _+_}
 use mathlib.Core.Bool.{Bool, not, _&&_, _||_}
 use mathlib.Core.List.{List}
@@ -28,28 +29,62 @@ use Rattle.world.specs.Outgoing.{packetAt, packetFor, freeOutgoing, freePlaces,
 use Rattle.world.specs.Hold.{entryOf, entryAt, holding, readyPlace, freeHold, entryPut, entryFreed, entryAdded}
 use Rattle.world.specs.Delivered.{nextOf, appended}
 use Rattle.protocol.specs.declared.answer.Answer.{Answer}
-use Rattle.protocol.specs.declared.answer.Answer.the-variants.{Done, Dropped, Wait, Dismissed, BadServer, WrongSide, NoSuch, BadField, SameDigest, NoRoom, Quota, Unknown, WrongDigest, Recall}
+use Rattle.protocol.specs.declared.answer.Answer.the-variants.{Done, Dropped, Wait, Dismissed, BadServer}
+use Rattle.protocol.specs.declared.answer.Answer.the-variants.{WrongSide, NoSuch, BadField, SameDigest, NoRoom}
+use Rattle.protocol.specs.declared.answer.Answer.the-variants.{Quota, Unknown, WrongDigest, Recall}
 use Rattle.protocol.specs.declared.boxes.Boxes.{Boxes}
 use Rattle.protocol.specs.declared.boxes.Ruling.{Ruling}
 use Rattle.protocol.specs.declared.boxes.Requested.{Requested}
 use Rattle.search.specs.Tests.{must}
 
--- an answer beside the boxes. "Only 0 DONE and 1 DROPPED change the world": every other answer below stands beside the boxes as they were.
+-- an answer beside the boxes. Every answer but DONE and DROPPED stands beside the boxes as they were.
 abbrev pub answered : Answer → Boxes → Ruling
 answered a b = record { answer = a; boxes = b }
 
 -- the boxes with one of them changed
 abbrev pub withHold : Boxes → Hold → Boxes
-withHold b h = record { numbered = b .numbered; stored = b .stored; request = b .request; executions = b .executions; outgoing = b .outgoing; hold = h; delivered = b .delivered }
+withHold b h = record {
+  numbered = b .numbered;
+  stored = b .stored;
+  request = b .request;
+  executions = b .executions;
+  outgoing = b .outgoing;
+  hold = h;
+  delivered = b .delivered;
+}
 
 abbrev pub withOutgoing : Boxes → Outgoing → Boxes
-withOutgoing b o = record { numbered = b .numbered; stored = b .stored; request = b .request; executions = b .executions; outgoing = o; hold = b .hold; delivered = b .delivered }
+withOutgoing b o = record {
+  numbered = b .numbered;
+  stored = b .stored;
+  request = b .request;
+  executions = b .executions;
+  outgoing = o;
+  hold = b .hold;
+  delivered = b .delivered;
+}
 
 abbrev pub withDelivered : Boxes → Delivered → Boxes
-withDelivered b d = record { numbered = b .numbered; stored = b .stored; request = b .request; executions = b .executions; outgoing = b .outgoing; hold = b .hold; delivered = d }
+withDelivered b d = record {
+  numbered = b .numbered;
+  stored = b .stored;
+  request = b .request;
+  executions = b .executions;
+  outgoing = b .outgoing;
+  hold = b .hold;
+  delivered = d;
+}
 
 abbrev pub withExecutions : Boxes → Executions → ℕ → Boxes
-withExecutions b t m = record { numbered = m; stored = b .stored; request = b .request; executions = t; outgoing = b .outgoing; hold = b .hold; delivered = b .delivered }
+withExecutions b t m = record {
+  numbered = m;
+  stored = b .stored;
+  request = b .request;
+  executions = t;
+  outgoing = b .outgoing;
+  hold = b .hold;
+  delivered = b .delivered;
+}
 
 -- the orderer: an execution made, and a call recorded at the execution of place k
 abbrev pub madeBy : Boxes → Ordered → Boxes
@@ -64,12 +99,20 @@ recordedBy b k o = withExecutions b (executionPut (b .executions) k (o .executio
 unfoldable pub recorded : Roster → ℕ → ℕ → Boxes → Boxes
 recorded r server k b = recordedBy b k (ordered r (called (executionAt (b .executions) k) server) (b .numbered))
 
--- Request. "A seal bit at n or above: 7. Digest of the 30 bytes equals a stored one: 8. 128 stored: 9. Otherwise stored."
+-- Request: BAD_FIELD for a seal of no server, SAME_DIGEST for bytes whose digest is stored, NO_ROOM where every slot
+-- is given; else it goes into the next slot with its digest.
 abbrev pub bareRequest : ℕ → ℕ → ℕ → List ℕ → Request
-bareRequest client serial seals command = record { serial = serial; client = client; seals = seals; command = command; digest = replicate digestBytes 0 }
+bareRequest client serial seals command = record {
+  serial = serial;
+  client = client;
+  seals = seals;
+  command = command;
+  digest = replicate digestBytes 0;
+}
 
 unfoldable pub requestFrom : ℕ → ℕ → ℕ → List ℕ → Request
-requestFrom client serial seals command = let q = bareRequest client serial seals command in withDigest q (digestOf (requestBytes q))
+requestFrom client serial seals command =
+    let q = bareRequest client serial seals command in withDigest q (digestOf (requestBytes q))
 
 abbrev pub storedWith : Answer → Requests → Requested
 storedWith a q = record { answer = a; requests = q }
@@ -82,9 +125,9 @@ requestOf r client serial seals command q =
     (must (ltb (q .count) requestsMost) (storedWith NoRoom q)
     (storedWith Done (requestAdded q new))))
 
--- Multicast. "4, 5, 6. Own seal bit 0: 3. 16 executions of its own: 10. Fewer than n−1 free outgoing places, or hold full: 9. Otherwise the
--- id is its count of executions plus one; the execution is made; an entry at stage two goes into its hold; one packet goes to each other
--- server, recipients ascending."
+-- Multicast, by a correct server, of a stored request: DISMISSED without its own good seal, QUOTA with all its
+-- executions made, NO_ROOM without an outgoing place for each other server and a place in its hold. Then its next
+-- execution is made, it holds the sending at stage two, and a packet goes to each other server.
 abbrev pub ownSending : ℕ → ℕ → Boxes → Sending
 ownSending server slot b = record { id = b .executions .count + 1; sender = server; slot = slot }
 
@@ -108,8 +151,8 @@ multicastOf r server slot b =
     (must (roomy r server b) (answered NoRoom b)
     (answered Done (multicastDone r server slot b)))))))
 
--- Arrive. "Origin: 4. Place: 6. Recipient faulty, or it holds an entry of equal sender, id and slot: place freed, 1. Hold full: 9, the
--- packet stays. Otherwise the place is freed and an entry at stage one kept, 0."
+-- Arrive, of the packet at a place of an origin: it is DROPPED where its recipient is faulty or holds that very sending
+-- already, at any stage; NO_ROOM leaves it under way; else it leaves its place and is held at stage one.
 unfoldable pub arriveOf : Roster → ℕ → ℕ → Boxes → Ruling
 arriveOf r origin place b =
     let p = packetAt (b .outgoing) place in
@@ -128,8 +171,9 @@ raised place stage number b =
 abbrev pub droppedAt : ℕ → Boxes → Ruling
 droppedAt place b = answered Dropped (withHold b (entryFreed (b .hold) place))
 
--- Propose (entry at stage one). "4, 5, 6. No such execution: 2. Server has called: entry freed, 1. Own seal bit 0: stage two, nothing told
--- to the orderer, 0. Digest differs: entry freed, 1. Otherwise the call is recorded, the mask too while unnumbered; stage two, 0."
+-- Propose, by a correct server, of an entry at stage one: WAIT as long as its execution is not there; DROPPED, the
+-- entry freed, where the server has called before, or its seal is good and the digest is another one. Without a good
+-- seal the entry goes on to stage two and the orderer is told nothing; with one the call is recorded too.
 unfoldable pub proposeTo : Roster → ℕ → ℕ → ℕ → Boxes → Ruling
 proposeTo r server place k b =
     let x = executionAt (b .executions) k in
@@ -150,9 +194,9 @@ proposeOf r server place b =
     (must (eqb (e .stage) 1) (answered NoSuch b)
     (proposeFound r server place b (executionOf (b .executions) (e .sending .id)))))
 
--- Settle (entry at stage two). "4, 5, 6. No number: 2. Entry's digest is not the execution's: freed, 1. Server is not the sender: it needs
--- one outgoing place for each server outside the final mask, itself excepted; too few: 9; else it sends there, ascending. Then stage three
--- with the number, 0."
+-- Settle, by a correct server, of an entry at stage two: WAIT without a number; DROPPED, the entry freed, where the
+-- digest is another one. Who is not the sender forwards it to everybody outside the mask, in ascending order, or is
+-- told NO_ROOM. Then the entry is at stage three and has the number.
 unfoldable pub settleTo : Roster → ℕ → ℕ → ℕ → Boxes → Ruling
 settleTo r server place k b =
     let e = entryAt (b .hold) place in
@@ -176,8 +220,8 @@ settleOf r server place b =
     (must (eqb (e .stage) 2) (answered NoSuch b)
     (settleFound r server place b (executionOf (b .executions) (e .sending .id)))))
 
--- Deliver. "4, 5. No entry at stage three has the server's next number: 2. Otherwise the lowest such place is freed, sender, id and slot are
--- appended, next number plus one, 0."
+-- Deliver, by a correct server: WAIT where no entry at stage three has its next number; else the lowest of them leaves
+-- its place, and its sending is the next delivered item.
 unfoldable pub deliverFound : Boxes → Found → Ruling
 deliverFound b (At k) =
     let e = entryAt (b .hold) k in
@@ -190,7 +234,8 @@ deliverOf r server b =
     (must (not (faulty r server)) (answered WrongSide b)
     (deliverFound b (readyPlace (b .hold) (nextOf (b .delivered)))))
 
--- Forge packet. "4 (any of three), 5 for from, 6, no free outgoing place of from: 9. Otherwise sent. It may claim any sender."
+-- Forge packet, by a faulty server: a packet of a stored request to anyone, in anyone's name, as long as it has a free
+-- place.
 unfoldable pub forgePacketOf : Roster → ℕ → ℕ → ℕ → ℕ → ℕ → Boxes → Ruling
 forgePacketOf r from to sender id slot b =
     let s : Sending = record { id = id; sender = sender; slot = slot } in
@@ -200,7 +245,8 @@ forgePacketOf r from to sender id slot b =
     (must (isFound (freeOutgoing (b .outgoing))) (answered NoRoom b)
     (answered Done (withOutgoing b (packetAdded (b .outgoing) (packetFor to s)))))))
 
--- Forge send. "4, 5. Key exists: 13. 16 executions: 10. Otherwise made."
+-- Forge send, by a faulty server: an execution of its own with any digest. RECALL for an id that it has, QUOTA after
+-- the last.
 unfoldable pub forgeSendOf : Roster → ℕ → ℕ → List ℕ → Boxes → Ruling
 forgeSendOf r server id digest b =
     must (member r server) (answered BadServer b)
@@ -209,7 +255,8 @@ forgeSendOf r server id digest b =
     (must (ltb (b .executions .count) executionsMost) (answered Quota b)
     (answered Done (made r server id digest b)))))
 
--- Forge receive. "4 (either), 5 for server. No execution: 11. Has called: 13. Digest differs: 12. Otherwise recorded as in propose, 0."
+-- Forge receive, by a faulty server: a call at any execution. UNKNOWN, RECALL for a second call, WRONG_DIGEST; else it
+-- is recorded as a correct one is.
 unfoldable pub forgeReceiveTo : Roster → ℕ → List ℕ → ℕ → Boxes → Ruling
 forgeReceiveTo r server digest k b =
     let x = executionAt (b .executions) k in

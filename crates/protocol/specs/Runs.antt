@@ -24,12 +24,15 @@ use Rattle.protocol.specs.Steps.{ends, stepOf, worldAfter, answersOf}
 abbrev pub noWorld : World
 noWorld = freshWorld 0 0
 
--- "A start refused with 25 returns a world of zeros."
+-- a public start: a fresh world, or 25 and a world of zeros
 unfoldable pub startOf : ℕ → ℕ → Outcome
-startOf n faulty = must (goodRoster (record { n = n; faulty = faulty })) (ends (refusalCode BadStart) noWorld) (ends 0 (freshWorld n faulty))
+startOf n faulty =
+    must (goodRoster (record { n = n; faulty = faulty })) (ends (refusalCode BadStart) noWorld)
+    (ends 0 (freshWorld n faulty))
 
--- "A step takes a world and the bytes of one record; bytes after the record are ignored. It answers 27 BAD_WORLD exactly when the world is
--- not sound, then 24 for no bytes, then 22, 23, 24 as above; each leaves the world unchanged."
+-- a public step, by a world and the bytes that begin with its record: 27 where the world is not sound, 24 where there
+-- is no byte, then the reader's 22, 23 and 24; each leaves the world as it was. What follows the record is not looked
+-- at.
 unfoldable pub publicStepBy : World → List ℕ → Read → Outcome
 publicStepBy w s (read.Record kind b next) = stepOf w (askedFrom kind s b)
 publicStepBy w s (read.Refused why) = ends (refusalCode why) w
@@ -38,13 +41,13 @@ publicStepBy w s read.End = ends (refusalCode Cut) w
 unfoldable pub publicStep : World → List ℕ → Outcome
 publicStep w s = must (sound w) (ends (refusalCode BadWorld) w) (publicStepBy w s (readAt s 0))
 
--- 26 comes last: "lent answer buffer shorter than one byte per record after the start"
+-- 26 comes last: the lent buffer has less than a byte for each record
 abbrev pub withRoom : ℕ → Verdict → Verdict
 withRoom room (Accepted k) = must (leb k room) (Refused OutSmall 0) (Accepted k)
 withRoom room (Refused why at) = Refused why at
 
--- "Nothing runs and nothing is written" where the schedule is refused; "An accepted schedule writes one answer byte per record after the start
--- and leaves the rest of the buffer untouched."
+-- a run: a refused schedule gives a world of zeros and leaves the lent bytes alone; an accepted one writes the code of
+-- each record's answer to the front of them, and leaves the others alone
 abbrev pub startWorld : List ℕ → World
 startWorld s = freshWorld (byteAt s 1) (byteAt s 2)
 

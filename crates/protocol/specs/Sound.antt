@@ -1,4 +1,4 @@
--- Document 01, "Refusing a whole schedule": what a sound world is. The words in quotes are the document's, in its order within each box.
+-- Document 01, "Refusing a whole schedule": what a sound world is, box by box, in the document's order within each box.
 use Prim.Native.Nat.{ℕ, _+_, _*_, _/_, _%_}
 use mathlib.Core.Bool.{Bool, cond, not, _&&_, _||_}
 use mathlib.Core.List.{List}
@@ -30,25 +30,25 @@ use Rattle.world.specs.Boxes.{executionsOf, outgoingOf, holdOf, deliveredOf, it
 use Rattle.protocol.specs.Zeros.{zeroRequest, zeroExecution, zeroSending, zeroPacket, zeroEntry}
 use Rattle.protocol.specs.Names.{names, tableOf, ownExecution}
 
--- "seals of stored requests have no bit at n or above; stored digests are those of their requests"
+-- a stored request: it has no seal of a server that is not there, and its digest is that of its bytes
 unfoldable pub storedSound : Roster → Request → Bool
 storedSound r q = not (strays r (q .seals)) && sameDigest (q .digest) (digestOf (requestBytes q))
 
--- slot k, stored or not; "unused places all zeros"
+-- slot k, stored or not; where it is not given, zeros
 unfoldable pub slotSound : Roster → ℕ → ℕ → Request → Bool
 slotSound r stored k q = cond (ltb k stored) (storedSound r q) (zeroRequest q)
 
--- "and differ from each other": no slot before slot k has its digest
+-- the stored digests differ: no slot before slot k has its digest
 unfoldable pub newDigest : Requests → ℕ → Bool
 newDigest q k = every (λ (j : ℕ). not (sameDigest (requestAt q j .digest) (requestAt q k .digest))) k
 
--- the requests; "every count within its size"
+-- the requests, no more than there are slots
 unfoldable pub requestsSound : Roster → Requests → Bool
 requestsSound r q =
     leb (q .count) requestsMost && every (λ (k : ℕ). slotSound r (q .count) k (requestAt q k)) requestsMost
     && every (λ (k : ℕ). newDigest q k) (q .count)
 
--- an execution: "no mask with a bit at n or above", "each mask lies within the servers that called, the sender in both"
+-- an execution's masks: servers that are there; who proposed has called; its sender did both
 unfoldable pub liesWithin : ℕ → ℕ → Bool
 liesWithin mask called = every (λ (i : ℕ). implies (has mask i) (has called i)) servers
 
@@ -57,38 +57,42 @@ masksSound r sender x =
     not (strays r (x .called)) && not (strays r (x .mask)) && liesWithin (x .mask) (x .called) && has (x .called) sender
     && has (x .mask) sender
 
--- "and an execution is numbered exactly when its mask has T members"; a number is one of 1 to M
+-- it has a number, one of 1 to M, where its mask has exactly T members, and none otherwise
 unfoldable pub orderSound : Roster → ℕ → Execution → Bool
 orderSound r m x =
-    cond (eqb (x .number) 0) (not (eqb (ones (x .mask)) (threshold r))) (eqb (ones (x .mask)) (threshold r) && leb (x .number) m)
+    cond (eqb (x .number) 0) (not (eqb (ones (x .mask)) (threshold r)))
+    (eqb (ones (x .mask)) (threshold r) && leb (x .number) m)
 
--- "a correct server's executions have ids 1, 2, 3 without gaps"
+-- an execution in use; of a correct sender, the one at place k has id k + 1
 unfoldable pub executionSound : Roster → ℕ → ℕ → ℕ → Execution → Bool
-executionSound r m sender k x = masksSound r sender x && orderSound r m x && implies (correct r sender) (eqb (x .id) (k + 1))
+executionSound r m sender k x =
+    masksSound r sender x && orderSound r m x && implies (correct r sender) (eqb (x .id) (k + 1))
 
 -- place k of the table, used or not
 unfoldable pub placeSound : Roster → ℕ → ℕ → ℕ → ℕ → Execution → Bool
 placeSound r m sender made k x = cond (ltb k made) (executionSound r m sender k x) (zeroExecution x)
 
--- "execution keys differ": no execution of the sender before place k has its id
+-- keys differ: no execution of the sender before place k has its id
 unfoldable pub newId : Executions → ℕ → Bool
 newId t k = every (λ (j : ℕ). not (eqb (executionAt t j .id) (executionAt t k .id))) k
 
--- the executions of one sender; "all that belongs to servers at n or above is zeros"
+-- the executions of one sender; a name at n or above has none
 unfoldable pub executionsSound : Roster → ℕ → ℕ → Executions → Bool
 executionsSound r m sender t =
     leb (t .count) executionsMost && (member r sender || eqb (t .count) 0)
-    && every (λ (k : ℕ). placeSound r m sender (t .count) k (executionAt t k)) executionsMost && every (λ (k : ℕ). newId t k) (t .count)
+    && every (λ (k : ℕ). placeSound r m sender (t .count) k (executionAt t k)) executionsMost
+    && every (λ (k : ℕ). newId t k) (t .count)
 
--- "the numbers given are 1 to M, each once"; the executions are counted one sender behind the other
+-- each of the numbers 1 to M was given once; the executions are counted one sender after the other
 abbrev pub numberAt : List Executions → ℕ → ℕ
 numberAt ts i = executionAt (tableOf ts (i / executionsMost)) (i % executionsMost) .number
 
 unfoldable pub numbersSound : List Executions → ℕ → Bool
 numbersSound ts m =
-    leb m deliveredMost && every (λ (k : ℕ). eqb (count (λ (i : ℕ). eqb (numberAt ts i) (k + 1)) (servers * executionsMost)) 1) m
+    leb m deliveredMost
+    && every (λ (k : ℕ). eqb (count (λ (i : ℕ). eqb (numberAt ts i) (k + 1)) (servers * executionsMost)) 1) m
 
--- a place of a packet: "every server below n", and where there is none, zeros
+-- an outgoing place: a packet between servers that are there, of a stored request; or zeros
 unfoldable pub packetSound : Roster → ℕ → ℕ → Packet → Bool
 packetSound r stored origin p =
     cond (p .there) (member r origin && member r (p .to) && names r stored (p .sending)) (zeroPacket p)
@@ -97,11 +101,11 @@ packetSound r stored origin p =
 unfoldable pub outgoingSound : Roster → ℕ → ℕ → Outgoing → Bool
 outgoingSound r stored origin o = every (λ (k : ℕ). packetSound r stored origin (packetAt o k)) outgoingPlaces
 
--- "an entry has a number, from 1 to M, exactly at stage three"
+-- an entry's number: one of 1 to M at stage three, none before it
 unfoldable pub stageSound : ℕ → Entry → Bool
 stageSound m e = cond (eqb (e .stage) 3) (leb 1 (e .number) && leb (e .number) m) (eqb (e .number) 0)
 
--- "a held entry past its first stage names an execution in the table"
+-- a place of a hold: zeros, or an entry of a server that is there; after stage one its execution is in the table
 unfoldable pub entrySound : Roster → ℕ → ℕ → ℕ → Executions → Entry → Bool
 entrySound r stored m server t e =
     cond (eqb (e .stage) 0) (zeroEntry e)
@@ -117,7 +121,7 @@ holdSound r stored m ts server h =
 unfoldable pub itemSound : Roster → ℕ → ℕ → ℕ → Sending → Bool
 itemSound r stored done k s = cond (ltb k done) (names r stored s) (zeroSending s)
 
--- "a server's next number is its delivered count plus one, and that count is at most M"
+-- what a server has delivered: no more items than numbers were given. (Its next number is derived from their count.)
 unfoldable pub deliveredSound : Roster → ℕ → ℕ → ℕ → Delivered → Bool
 deliveredSound r stored m server d =
     leb (d .count) m && (member r server || eqb (d .count) 0)
@@ -126,7 +130,8 @@ deliveredSound r stored m server d =
 -- the boxes of one server
 unfoldable pub serverSound : World → ℕ → Bool
 serverSound w s =
-    executionsSound (w .roster) (w .numbered) s (executionsOf w s) && outgoingSound (w .roster) (w .requests .count) s (outgoingOf w s)
+    executionsSound (w .roster) (w .numbered) s (executionsOf w s)
+    && outgoingSound (w .roster) (w .requests .count) s (outgoingOf w s)
     && holdSound (w .roster) (w .requests .count) (w .numbered) (w .executions) s (holdOf w s)
     && deliveredSound (w .roster) (w .requests .count) (w .numbered) s (deliveredOf w s)
 
@@ -134,7 +139,8 @@ serverSound w s =
 unfoldable pub serversSound : World → Bool
 serversSound w = every (λ (s : ℕ). serverSound w s) servers
 
--- "n and mask as 25 asks", and every box
+-- a roster that 25 would let start, and every box
 unfoldable pub sound : World → Bool
 sound w =
-    goodRoster (w .roster) && requestsSound (w .roster) (w .requests) && numbersSound (w .executions) (w .numbered) && serversSound w
+    goodRoster (w .roster) && requestsSound (w .roster) (w .requests) && numbersSound (w .executions) (w .numbered)
+    && serversSound w

@@ -1,4 +1,5 @@
--- What a step does to the whole world: the boxes that it touches are ends out, its rule is applied to them, and they are put back.
+-- What a step does to the whole world: the boxes that it touches are ends out, its rule is applied to them, and they
+-- are put back.
 use Prim.Native.Nat.{ℕ}
 use mathlib.Core.List.{List, [], _∷_}
 use lib.ListN.{getD, set}
@@ -13,8 +14,10 @@ use Rattle.protocol.specs.declared.boxes.Boxes.{Boxes}
 use Rattle.protocol.specs.declared.boxes.Ruling.{Ruling}
 use Rattle.protocol.specs.declared.boxes.Requested.{Requested}
 use Rattle.protocol.specs.Answers.{answerCode}
-use Rattle.protocol.specs.Rules.{requestOf, multicastOf, arriveOf, proposeOf, settleOf, deliverOf, forgePacketOf, forgeSendOf, forgeReceiveOf}
-use Rattle.format.specs.Records.{Asked, Request, Multicast, Arrive, Propose, Settle, Deliver, ForgePacket, ForgeSend, ForgeReceive}
+use Rattle.protocol.specs.Rules.{requestOf, multicastOf, arriveOf, proposeOf, settleOf, deliverOf, forgePacketOf}
+use Rattle.protocol.specs.Rules.{forgeSendOf, forgeReceiveOf}
+use Rattle.format.specs.Records.{Asked, Request, Multicast, Arrive, Propose, Settle, Deliver, ForgePacket, ForgeSend}
+use Rattle.format.specs.Records.{ForgeReceive}
 use Rattle.protocol.specs.declared.boxes.Touch.{Touch}
 use Rattle.protocol.specs.declared.ending.Outcome.{Outcome}
 
@@ -22,10 +25,15 @@ use Rattle.protocol.specs.declared.ending.Outcome.{Outcome}
 abbrev pub ends : ℕ → World → Outcome
 ends code w = record { code = code; world = w }
 
--- whose boxes a step touches: the outgoing places and delivered list of one server, the hold of one, the executions of one sender, and the
--- request of one slot
+-- whose boxes a step touches: the outgoing places and delivered list of one server, the hold of one, the executions of
+-- one sender, and the request of one slot
 abbrev pub touch : ℕ → ℕ → ℕ → ℕ → Touch
-touch server holder sender slot = record { server = seat server; holder = seat holder; sender = seat sender; slot = within requestsMost slot }
+touch server holder sender slot = record {
+  server = seat server;
+  holder = seat holder;
+  sender = seat sender;
+  slot = within requestsMost slot;
+}
 
 -- those of a server with an entry of the sending
 abbrev pub touchFor : ℕ → Sending → Touch
@@ -65,17 +73,21 @@ putRequests w r = ends (answerCode (r .answer)) (withRequests w (r .requests))
 
 -- each step, with the boxes that document 01's rule speaks of: a packet's recipient, an entry's sender and slot
 unfoldable pub stepOf : World → Asked → Outcome
-stepOf w (Request client serial seals command) = putRequests w (requestOf (w .roster) client serial seals command (w .requests))
+stepOf w (Request client serial seals command) =
+    putRequests w (requestOf (w .roster) client serial seals command (w .requests))
 stepOf w (Multicast server slot) = on w (touch server server server slot) (multicastOf (w .roster) server slot)
-stepOf w (Arrive origin place) = on w (touch origin (packetAt (outgoingOf w origin) place .to) origin 0) (arriveOf (w .roster) origin place)
+stepOf w (Arrive origin place) =
+    on w (touch origin (packetAt (outgoingOf w origin) place .to) origin 0) (arriveOf (w .roster) origin place)
 stepOf w (Propose server place) =
     on w (touchFor server (entryAt (holdOf w server) place .sending)) (proposeOf (w .roster) server place)
 stepOf w (Settle server place) =
     on w (touchFor server (entryAt (holdOf w server) place .sending)) (settleOf (w .roster) server place)
 stepOf w (Deliver server) = on w (touch server server server 0) (deliverOf (w .roster) server)
-stepOf w (ForgePacket from to sender id slot) = on w (touch from from from 0) (forgePacketOf (w .roster) from to sender id slot)
+stepOf w (ForgePacket from to sender id slot) =
+    on w (touch from from from 0) (forgePacketOf (w .roster) from to sender id slot)
 stepOf w (ForgeSend server id digest) = on w (touch server server server 0) (forgeSendOf (w .roster) server id digest)
-stepOf w (ForgeReceive server sender id digest) = on w (touch server server sender 0) (forgeReceiveOf (w .roster) server sender id digest)
+stepOf w (ForgeReceive server sender id digest) =
+    on w (touch server server sender 0) (forgeReceiveOf (w .roster) server sender id digest)
 
 -- a row of steps: the world after, and the answers
 unfoldable pub worldAfter : World → List Asked → World

@@ -1,4 +1,4 @@
--- "all zeros": what a free or unused place holds.
+-- What a free or unused place holds: zeros in every field.
 use Prim.Native.Nat.{ℕ}
 use mathlib.Core.Bool.{Bool, not, _&&_}
 use mathlib.Core.List.{List}
@@ -17,10 +17,13 @@ unfoldable pub zeroBytes : List ℕ → ℕ → Bool
 zeroBytes l n = every (λ (k : ℕ). eqb (getD l k 0) 0) n
 
 abbrev pub zeroRequest : Request → Bool
-zeroRequest q = eqb (q .serial) 0 && eqb (q .client) 0 && eqb (q .seals) 0 && zeroBytes (q .command) commandBytes && zeroBytes (q .digest) digestBytes
+zeroRequest q =
+    eqb (q .serial) 0 && eqb (q .client) 0 && eqb (q .seals) 0 && zeroBytes (q .command) commandBytes
+    && zeroBytes (q .digest) digestBytes
 
 abbrev pub zeroExecution : Execution → Bool
-zeroExecution x = eqb (x .number) 0 && eqb (x .id) 0 && eqb (x .called) 0 && eqb (x .mask) 0 && zeroBytes (x .digest) digestBytes
+zeroExecution x =
+    eqb (x .number) 0 && eqb (x .id) 0 && eqb (x .called) 0 && eqb (x .mask) 0 && zeroBytes (x .digest) digestBytes
 
 abbrev pub zeroSending : Sending → Bool
 zeroSending s = eqb (s .id) 0 && eqb (s .sender) 0 && eqb (s .slot) 0

@@ -42,7 +42,7 @@ use Rattle.protocol.specs.Steps.{ends, putBack, boxesOf, stepOf, worldAfter, an
 use Rattle.rehearsal.specs.Acts.{touchBy, touchOf, actOf}
 use Rattle.rehearsal.proofs.Lenses.{lens}
 
--- what is left to do behind k records
+-- what is left to do after k records
 abbrev pub restOf : List ℕ → ℕ → ℕ → List Asked
 restOf s at k = askedAfter s (length s - k) at
 

@@ -41,7 +41,8 @@ pub(crate) fn slot_of(slot: u8) -> usize
     if i < Requests::MOST { i } else { 0 }
 }
 
-// Whose boxes a record's step touches: its body starts with x and y, and those name the packet p or the entry e of server x.
+// Whose boxes a record's step touches: its body starts with x and y, and those name the packet p or the entry e of
+// server x.
 pub(crate) fn touch_by(act: Act, x: u8, y: u8, p: Packet, e: Entry) -> Touch
     ensures { λ r. ⌜ r ≡ touchBy act x y p e ⌝ }
     ensures { λ r. ⌜ Seated r ⌝ }

@@ -18,7 +18,7 @@ use schedule::judge;
 use schedule::read_at;
 use world::World;
 
-// Runs a schedule and writes one answer for each record behind the start.
+// Runs a schedule and writes one answer for each record after the start.
 pub fn run(s: &[u8], answers: &mut [u8]) -> Ran
     ensures { λ r. ⌜ r ≡ ranOf (now (s .entry)) (length (now (answers .entry))) ⌝ }
     ensures { λ r. ⌜ now (answers .exit) ≡ writtenOf (now (s .entry)) (now (answers .entry)) ⌝ }

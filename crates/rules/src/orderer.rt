@@ -10,7 +10,7 @@ use world::Executions;
 use world::Ordered;
 use world::Roster;
 
-// The execution behind the sender's others, numbered at once where T is 1.
+// The execution after the sender's others, numbered at once where T is 1.
 pub(crate) fn make(
     b: Boxes,
     roster: Roster,

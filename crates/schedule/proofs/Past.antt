@@ -15,7 +15,7 @@ two-past s at h = rw (getD-out s at 0 h, getD-out s (at + 1) 0 (omega arith))
 pub four-past : (s : List ℕ) (at : ℕ) → length s ≤ at → 0 ≡ fourAt s at
 four-past s at h = rw (← two-past s at h, ← two-past s (at + 2) (omega arith))
 
--- zeros, one more behind the others
+-- zeros, one more after the others
 zeros-more : (n : ℕ) → _++_ {A = ℕ} (replicate n 0) (0 ∷ []) ≡ replicate (suc n) 0
 zeros-more zero = refl
 zeros-more (suc n) = ap (λ (l : List ℕ). 0 ∷ l) (zeros-more n)

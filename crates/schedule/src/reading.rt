@@ -6,7 +6,7 @@ use format::Form;
 use format::Read;
 use format::Refusal;
 
-// The record at an offset behind the start, or why it is none.
+// The record at an offset after the start, or why it is none.
 pub fn read_at(s: &[u8], at: usize) -> Read
     ensures { λ r. ⌜ r ≡ readAt (now (s .entry)) at ⌝ }
 {

@@ -7,7 +7,7 @@ use native.Mathlib.Omega.{arith}
 use lib.ListN.{length, getD, take, drop, set, length-drop}
 use lib.Seq.{take-suc, take-suc-set, getD-drop}
 
--- one more element stored behind the first t
+-- one more element stored after the first t
 pub stored : (ws l : List ℕ) (t v : ℕ) → t < length ws → take t ws ≡ l → take (t + 1) (set ws t v) ≡ l ++ v ∷ []
 stored ws l t v h e = rw (add-one, take-suc-set) (ap (λ (r : List ℕ). r ++ v ∷ []) e)
 

@@ -1,4 +1,4 @@
--- Items and lines of servers, one more behind the others. Assumes nothing.
+-- Items and lines of servers, one more after the others. Assumes nothing.
 use mathlib.Core.Path.{_≡_, refl, sym, _∙_}
 use mathlib.Core.Bool.{Bool, true, false}
 use mathlib.Core.List.{List, [], _∷_, _++_, append-assoc, append-nil}

@@ -1,4 +1,4 @@
-// The lines of the servers, each written at a place of the lent buffer. Each function answers the place behind what it
+// The lines of the servers, each written at a place of the lent buffer. Each function answers the place after what it
 // wrote.
 ghost use mathlib.Core.Path.{_≡_};
 ghost use Prim.Native.Nat.{_+_, _≤_, min};
@@ -15,7 +15,7 @@ use writing::put_byte;
 use writing::put_number;
 use writing::put_word;
 
-// SENDER.ID.SLOT, behind a blank.
+// SENDER.ID.SLOT, after a blank.
 fn put_item(text: &mut [u8], at: usize, item: Sending) -> usize
     requires { ⌜ at ≤ listingMost ⌝ }
     ensures { λ r. ⌜ Wrote (now (text .entry)) at (itemText item) (now (text .exit)) r ⌝ }

@@ -10,7 +10,7 @@ use world::Delivered;
 use world::Executions;
 use world::World;
 
-// The numbers of all executions, one sender behind the other.
+// The numbers of all executions, one sender after the other.
 fn numbers_of(tables: [Executions; World::SERVERS]) -> [u32; Delivered::MOST]
     ensures { λ r. ⌜ ((i : ℕ) → i < deliveredMost → getD r i 0 ≡ numberAt tables i) ⌝ }
 {

@@ -1,4 +1,4 @@
--- Lines of steps, one more behind the others. Assumes nothing.
+-- Lines of steps, one more after the others. Assumes nothing.
 use mathlib.Core.Path.{_≡_, sym}
 use mathlib.Core.List.{List, [], _∷_, _++_, append-assoc, append-nil}
 use Prim.Native.Nat.{ℕ, suc, _+_, _<_}

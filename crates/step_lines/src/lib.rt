@@ -1,5 +1,5 @@
 // The first line and those of the steps, each written at a place of the lent buffer. Each function answers the place
-// behind its lines.
+// after its lines.
 ghost use Prim.Native.Nat.{_+_, _*_, _^_, _≤_, _<_};
 ghost use lib.ListN.{length, take};
 ghost use Rattle.writing.specs.Writing.{Wrote};

@@ -1,5 +1,6 @@
-// The published short messages of SHA-256 (NIST's SHA256ShortMsg, 0 to 55 bytes): each line of standard input is a message
-// in hex, and a line of its digest is written for each. The file stdout beside this folder has the published digests.
+// The published short messages of SHA-256 (NIST's SHA256ShortMsg, 0 to 55 bytes): each line of standard input is a
+// message in hex, and a line of its digest is written for each. The file stdout beside this folder has the published
+// digests.
 ghost use Prim.Native.Nat.{_<_};
 use fips180::Digest;
 use hex::Line;

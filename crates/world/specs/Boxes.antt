@@ -1,5 +1,6 @@
--- The boxes of a world, by the server that they belong to. A name that is no server's finds the first box: every step and every test looks at
--- the name before it looks at the box.
+-- The boxes of a world, by the server that they belong to. A name that is no server's finds the first box. A step
+-- tests the names in its record before it looks at their boxes; that a packet's recipient and an entry's sender are
+-- servers, soundness guarantees (`Sound`), and no step makes others (`kept`).
 use Prim.Native.Nat.{ℕ}
 use mathlib.Core.Bool.{cond}
 use mathlib.Core.List.{[]}

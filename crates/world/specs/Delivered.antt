@@ -10,7 +10,7 @@ use Rattle.world.specs.Sending.{noSending}
 unfoldable pub freshDelivered : Delivered
 freshDelivered = record { items = replicate deliveredMost noSending; count = 0 }
 
--- "a server's next number is its delivered count plus one"
+-- the number that a server delivers next: one more than it has delivered
 abbrev pub nextOf : Delivered → ℕ
 nextOf d = nextNumber (d .count)
 

@@ -37,20 +37,25 @@ executionPut t k x = record { table = set (t .table) k x; count = t .count }
 abbrev pub executionAdded : Executions → Execution → Executions
 executionAdded t x = record { table = set (t .table) (t .count) x; count = t .count + 1 }
 
--- "keyed by sender and id": the place of the id among the sender's executions
+-- an execution is known by its sender and id: the place of the id among the sender's executions
 abbrev pub executionOf : Executions → ℕ → Found
 executionOf t id = first (λ (k : ℕ). ltb k (t .count) && eqb (executionAt t k .id) id) executionsMost
 
--- the number behind m (1, 2, 3, ..), at 32 bits
+-- the number after m (1, 2, 3, ..), at 32 bits
 abbrev pub nextNumber : ℕ → ℕ
 nextNumber m = (m + 1) % 2 ^ 32
 
--- "It keeps the sender's digest, the servers that have called, the servers that proposed (the mask), and its number or none. The sender is
--- in both from the start."
+-- a new execution has the sender's digest and no number; the sender has called, and is in the mask
 abbrev pub opened : ℕ → ℕ → List ℕ → Execution
-opened sender id digest = record { number = 0; id = id; called = join nobody sender; mask = join nobody sender; digest = digest }
+opened sender id digest = record {
+  number = 0;
+  id = id;
+  called = join nobody sender;
+  mask = join nobody sender;
+  digest = digest;
+}
 
--- a server's call, "the mask too while unnumbered"
+-- a server's call; it is a proposal too, as long as there is no number
 abbrev pub called : Execution → ℕ → Execution
 called e server = record {
   number = e .number;
@@ -64,7 +69,7 @@ called e server = record {
 abbrev pub withNumber : Execution → ℕ → Execution
 withNumber e m = record { number = m; id = e .id; called = e .called; mask = e .mask; digest = e .digest }
 
--- "When an unnumbered execution's mask has T members, it gets the next number and its mask is final."
+-- the next number, for an execution that has none and whose mask has come to T members
 unfoldable pub ordered : Roster → Execution → ℕ → Ordered
 ordered r e m =
     cond (eqb (e .number) 0 && eqb (ones (e .mask)) (threshold r))

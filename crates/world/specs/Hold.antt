@@ -1,4 +1,4 @@
--- The entries that one server holds. "The lowest free place is always the next one used."
+-- Document 01, "Sizes": the entries that one server holds, each new one at the lowest free place.
 use Prim.Native.Nat.{ℕ}
 use mathlib.Core.Bool.{Bool, not, _&&_}
 use lib.Dec.{eqb}

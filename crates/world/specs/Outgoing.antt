@@ -1,4 +1,4 @@
--- The packets of one origin. "The lowest free place is always the next one used."
+-- Document 01, "Sizes": the packets of one origin, each new one at the lowest free place.
 use Prim.Native.Nat.{ℕ, zero, suc}
 use mathlib.Core.Bool.{Bool, true, false, cond, not, _&&_}
 use lib.Dec.{eqb}
@@ -64,7 +64,8 @@ needed r mask server = count (λ (to : ℕ). recipient r mask server to) servers
 -- one packet for each of them, ascending: up to the first n servers, and up to all
 unfoldable pub sentBelow : Roster → ℕ → ℕ → Sending → Outgoing → ℕ → Outgoing
 sentBelow r mask server s o zero = o
-sentBelow r mask server s o (suc n) = let p = sentBelow r mask server s o n in cond (recipient r mask server n) (packetAdded p (packetFor n s)) p
+sentBelow r mask server s o (suc n) =
+    let p = sentBelow r mask server s o n in cond (recipient r mask server n) (packetAdded p (packetFor n s)) p
 
 abbrev pub sent : Roster → ℕ → ℕ → Sending → Outgoing → Outgoing
 sent r mask server s o = sentBelow r mask server s o servers

@@ -13,7 +13,13 @@ use Rattle.world.specs.Sizes.{requestsMost, commandBytes}
 
 -- a slot that is not given: all zeros
 abbrev pub unusedRequest : Request
-unusedRequest = record { serial = 0; client = 0; seals = 0; command = replicate commandBytes 0; digest = replicate digestBytes 0 }
+unusedRequest = record {
+  serial = 0;
+  client = 0;
+  seals = 0;
+  command = replicate commandBytes 0;
+  digest = replicate digestBytes 0;
+}
 
 unfoldable pub freshRequests : Requests
 freshRequests = record { slots = replicate requestsMost unusedRequest; count = 0 }
@@ -33,7 +39,7 @@ requestAdded q new = record { slots = set (q .slots) (q .count) new; count = q .
 abbrev pub withDigest : Request → List ℕ → Request
 withDigest q d = record { serial = q .serial; client = q .client; seals = q .seals; command = q .command; digest = d }
 
--- "the 30 bytes": client, number (4), seals, command (24), as the record has them
+-- the bytes of a request's body, as its record has them
 unfoldable pub requestBytes : Request → List ℕ
 requestBytes r = r .client ∷ (be 4 (r .serial) ++ r .seals ∷ r .command)
 

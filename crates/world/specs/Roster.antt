@@ -29,6 +29,6 @@ faults r = (r .n - 1) / 2
 abbrev pub threshold : Roster → ℕ
 threshold r = faults r + 1
 
--- "n outside 1..8, mask bit at n or above, more than f mask bits" makes no start
+-- who may start a world: 1 to 8 servers, no bit of a server that is not there, and at most f faulty ones
 abbrev pub goodRoster : Roster → Bool
 goodRoster r = leb 1 (r .n) && leb (r .n) servers && not (strays r (r .faulty)) && leb (ones (r .faulty)) (faults r)

@@ -1,7 +1,8 @@
 // The entries that one server holds, each at a stage.
 ghost use mathlib.Core.Path.{_≡_};
 ghost use Rattle.search.specs.Search.{isFound};
-ghost use Rattle.world.specs.Hold.{entryOf, freeEntry, freshHold, entryAt, isEntry, holding, isReady, readyPlace, freeHold, entryAdded, entryPut};
+ghost use Rattle.world.specs.Hold.{entryOf, freeEntry, freshHold, entryAt, isEntry, holding, isReady, readyPlace};
+ghost use Rattle.world.specs.Hold.{freeHold, entryAdded, entryPut};
 use crate::sending::Sending;
 use search::Found;
 

@@ -1,6 +1,7 @@
-// The world of document 01's "Sizes": n servers, the requests, the orderer's executions, the packets under way, the held entries and what
-// each server has delivered. Everything is by value, in boxes that a step takes out and puts back. Callers from outside get worlds too (crate
-// `bridge`), so their structs are `repr(C)`: laid out as C lays out a struct of these fields.
+// The world of document 01's "Sizes": n servers, the requests, the orderer's executions, the packets under way, the
+// held entries and what each server has delivered. Everything is by value, in boxes that a step takes out and puts
+// back. Callers from outside get worlds too (crate `bridge`), so their structs are `repr(C)`: laid out as C lays out a
+// struct of these fields.
 ghost use mathlib.Core.Path.{_≡_};
 ghost use Rattle.world.specs.Fresh.{freshWorld};
 

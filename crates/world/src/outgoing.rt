@@ -1,7 +1,8 @@
 // The packets that one server has sent and that have not arrived.
 ghost use mathlib.Core.Path.{_≡_};
 ghost use mathlib.Core.Bool.{cond};
-ghost use Rattle.world.specs.Outgoing.{freePacket, packetFor, freshOutgoing, packetAt, freeOutgoing, freePlaces, packetAdded, packetFreed, sent, needed, recipient};
+ghost use Rattle.world.specs.Outgoing.{freePacket, packetFor, freshOutgoing, packetAt, freeOutgoing, freePlaces};
+ghost use Rattle.world.specs.Outgoing.{packetAdded, packetFreed, sent, needed, recipient};
 use crate::mask::has;
 use crate::roster::Roster;
 use crate::sending::Sending;

@@ -1,4 +1,4 @@
--- Texts written one behind the other. Assumes nothing.
+-- Texts written one after the other. Assumes nothing.
 use mathlib.Core.Path.{_≡_, refl, sym, _∙_}
 use mathlib.Core.List.{List, [], _∷_, _++_}
 use Prim.Native.Nat.{ℕ, suc, _+_, _≤_, _<_}
@@ -16,7 +16,7 @@ sets-append l i (x ∷ a) b = let e : i + suc (length a) ≡ suc i + length a = 
 pub wrote-none : (l : List ℕ) (at : ℕ) → Wrote l at [] l at
 wrote-none l at = record { ends = omega arith; bytes = refl }
 
--- one text behind another
+-- one text after another
 pub then : {l m n a b : List ℕ} {at e f : ℕ} → Wrote l at a m e → Wrote m e b n f → Wrote l at (a ++ b) n f
 then {l} {m} {n} {a} {b} {at} {e} {f} p q =
     record {

@@ -5,8 +5,9 @@ use mathlib.Core.List.{List}
 use lib.ListN.{length}
 use lib.Seq.{sets}
 
--- the text stands in the buffer from `at` on, as far as it fits: `sets` stores its bytes one by one, and a byte past the buffer's end is not
--- stored. All other bytes are as they were. `end` is the place behind the text, wherever the buffer ends.
+-- the text stands in the buffer from `at` on, as far as it fits: `sets` stores its bytes one by one, and a byte past
+-- the buffer's end is not stored. All other bytes are as they were. `end` is the place after the text, wherever the
+-- buffer ends.
 pub record Wrote (buffer : List ℕ) (at : ℕ) (text : List ℕ) (after : List ℕ) (end : ℕ) : Type 0 where
   pub ends : end ≡ at + length text
   pub bytes : after ≡ sets buffer at text

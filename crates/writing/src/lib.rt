@@ -1,4 +1,4 @@
-// Bytes, words and numbers, written into a lent buffer as far as they fit. Each answers the place behind what it wrote.
+// Bytes, words and numbers, written into a lent buffer as far as they fit. Each answers the place after what it wrote.
 ghost use mathlib.Core.List.{[], _∷_};
 ghost use Prim.Native.Nat.{_+_, _≤_, _<_};
 ghost use lib.ListN.{length};
