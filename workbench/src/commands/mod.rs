@@ -1,0 +1,13 @@
+//! The subcommands: each has its help, whose first line is its usage, and a function from words to what is printed.
+
+pub mod run;
+
+use crate::command_line::{Ended, Words};
+
+/// One subcommand.
+pub struct Subcommand {
+    pub name: &'static str,
+    pub does: &'static str,
+    pub help: &'static str,
+    pub act: fn(Words) -> Ended,
+}
