@@ -8,6 +8,8 @@ pub mod command_line;
 pub mod commands;
 pub mod files;
 pub mod json;
+pub mod language;
+pub mod places;
 pub mod proved;
 pub mod trace;
 pub mod verdict;

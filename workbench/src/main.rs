@@ -8,12 +8,11 @@ use staubharfe::commands::{self, Subcommand};
 use staubharfe::files;
 
 /// Every subcommand, in the order in which the help shows them.
-const SUBCOMMANDS: &[Subcommand] = &[Subcommand {
-    name: "run",
-    does: "the listing of a schedule",
-    help: commands::run::HELP,
-    act: commands::run::act,
-}];
+const SUBCOMMANDS: &[Subcommand] = &[
+    Subcommand { name: "run", does: "the listing of a schedule", help: commands::run::HELP, act: commands::run::act },
+    Subcommand { name: "write", does: "text to a schedule", help: commands::write::HELP, act: commands::write::act },
+    Subcommand { name: "read", does: "a schedule to text", help: commands::read::HELP, act: commands::read::act },
+];
 
 /// Does what the words ask for; nothing panics, and the status says how it ended.
 fn main() -> ExitCode {

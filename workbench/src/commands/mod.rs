@@ -1,6 +1,8 @@
 //! The subcommands: each has its help, whose first line is its usage, and a function from words to what is printed.
 
+pub mod read;
 pub mod run;
+pub mod write;
 
 use crate::command_line::{Ended, Words};
 
