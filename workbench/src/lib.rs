@@ -9,6 +9,7 @@ pub mod commands;
 pub mod files;
 pub mod json;
 pub mod language;
+pub mod picture;
 pub mod places;
 pub mod proved;
 pub mod trace;

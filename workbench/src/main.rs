@@ -12,6 +12,8 @@ const SUBCOMMANDS: &[Subcommand] = &[
     Subcommand { name: "run", does: "the listing of a schedule", help: commands::run::HELP, act: commands::run::act },
     Subcommand { name: "write", does: "text to a schedule", help: commands::write::HELP, act: commands::write::act },
     Subcommand { name: "read", does: "a schedule to text", help: commands::read::HELP, act: commands::read::act },
+    Subcommand { name: "why", does: "what decided each step", help: commands::why::HELP, act: commands::why::act },
+    Subcommand { name: "draw", does: "a picture of a run", help: commands::draw::HELP, act: commands::draw::act },
 ];
 
 /// Does what the words ask for; nothing panics, and the status says how it ended.

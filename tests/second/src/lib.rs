@@ -5,17 +5,15 @@
 //! The comparison with another program: `random`, `draft`, `damage` and `generate` make schedules, `program` runs
 //! the other program, `compare` says where the two differ, `shrink` (with `intent`) makes a differing schedule small.
 //! Timing: `sizes`.
-//! For people: `hex` and `readable`; `draw` (with `story`, `layout` and `svg`) shows a run as a picture.
+//! For people: `hex` and `readable`, in the words of the schedule language (`workbench`).
 
 pub mod claims;
 pub mod compare;
 pub mod damage;
 pub mod draft;
-pub mod draw;
 pub mod generate;
 pub mod hex;
 pub mod intent;
-pub mod layout;
 pub mod listing;
 pub mod options;
 pub mod program;
@@ -28,8 +26,6 @@ pub mod shrink;
 pub mod sizes;
 pub mod sound;
 pub mod steps;
-pub mod story;
-pub mod svg;
 pub mod world;
 
 #[cfg(test)]

@@ -1,7 +1,9 @@
 //! The subcommands: each has its help, whose first line is its usage, and a function from words to what is printed.
 
+pub mod draw;
 pub mod read;
 pub mod run;
+pub mod why;
 pub mod write;
 
 use crate::command_line::{Ended, Words};

@@ -39,9 +39,7 @@ pub fn act(mut words: Words) -> Ended {
         });
     }
     match proved::run(&input.bytes, Rules::Proved) {
-        Err(refused) => {
-            Ok(Printed::new(listing::of_refused(refused)).status(REFUSED).note(hint(&input.bytes, refused)))
-        }
+        Err(refused) => Ok(refusal(&input.bytes, refused)),
         Ok((ran, answers)) => {
             let lines = if verdict { verdict_lines(&trace::trace(&input.bytes)) } else { String::new() };
             Ok(Printed::new(listing::of_run(&ran, &answers) + &lines))
@@ -52,6 +50,11 @@ pub fn act(mut words: Words) -> Ended {
 /// The verdict of a run.
 fn verdict_lines(trace: &Trace) -> String {
     trace.outcome.as_ref().map_or(String::new(), |run| run.verdict.lines())
+}
+
+/// What is printed of a refused schedule: its listing, and a note.
+pub fn refusal(bytes: &[u8], refused: Refused) -> Printed {
+    Printed::new(listing::of_refused(refused)).status(REFUSED).note(hint(bytes, refused))
 }
 
 /// What a refusal is called, and what may help.
