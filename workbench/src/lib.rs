@@ -11,6 +11,7 @@ pub mod json;
 pub mod language;
 pub mod picture;
 pub mod places;
+pub mod programs;
 pub mod proved;
 pub mod trace;
 pub mod verdict;

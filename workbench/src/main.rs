@@ -14,6 +14,18 @@ const SUBCOMMANDS: &[Subcommand] = &[
     Subcommand { name: "read", does: "a schedule to text", help: commands::read::HELP, act: commands::read::act },
     Subcommand { name: "why", does: "what decided each step", help: commands::why::HELP, act: commands::why::act },
     Subcommand { name: "draw", does: "a picture of a run", help: commands::draw::HELP, act: commands::draw::act },
+    Subcommand {
+        name: "compare",
+        does: "where two runs differ",
+        help: commands::compare::HELP,
+        act: commands::compare::act,
+    },
+    Subcommand {
+        name: "shrink",
+        does: "a failing schedule, made small",
+        help: commands::shrink::HELP,
+        act: commands::shrink::act,
+    },
 ];
 
 /// Does what the words ask for; nothing panics, and the status says how it ended.

@@ -1,8 +1,10 @@
 //! The subcommands: each has its help, whose first line is its usage, and a function from words to what is printed.
 
+pub mod compare;
 pub mod draw;
 pub mod read;
 pub mod run;
+pub mod shrink;
 pub mod why;
 pub mod write;
 
