@@ -7,6 +7,7 @@
 pub mod command_line;
 pub mod commands;
 pub mod files;
+pub mod hunt;
 pub mod json;
 pub mod language;
 pub mod picture;

@@ -26,6 +26,12 @@ const SUBCOMMANDS: &[Subcommand] = &[
         help: commands::shrink::HELP,
         act: commands::shrink::act,
     },
+    Subcommand {
+        name: "hunt",
+        does: "a schedule that breaks a claim, or shows an answer",
+        help: commands::hunt::HELP,
+        act: commands::hunt::act,
+    },
 ];
 
 /// Does what the words ask for; nothing panics, and the status says how it ended.

@@ -2,6 +2,7 @@
 
 pub mod compare;
 pub mod draw;
+pub mod hunt;
 pub mod read;
 pub mod run;
 pub mod shrink;
