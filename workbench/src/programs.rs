@@ -1,6 +1,7 @@
 //! Programs of others: a schedule goes to their standard input, and what they print and how they end is looked at.
 
 use std::ffi::OsString;
+use std::io::Error;
 use std::process::{Command, Stdio};
 use std::time::Duration;
 
@@ -29,26 +30,22 @@ impl Program {
         self.words[0].to_string_lossy().into_owned()
     }
 
-    /// Runs it on a schedule; what it says on standard error is not shown.
-    pub fn call(&self, schedule: &[u8]) -> Result<Ended, Failure> {
+    /// Runs it on a schedule; none where it took too long. What it says on standard error is not shown.
+    pub fn call(&self, schedule: &[u8]) -> Result<Option<Ended>, Failure> {
         let mut command = Command::new(&self.words[0]);
         command.args(&self.words[1..]).stderr(Stdio::null());
-        let ended = program::call(&mut command, schedule, self.patience).map_err(|trouble| self.told(&trouble))?;
-        if ended.status.code() == Some(NOT_THERE) && ended.output.is_empty() {
-            return Err(Failure::Failed(format!("{} ended with {NOT_THERE} and no output: is it there?", self.name())));
+        let failed = |what: &str, why: &Error| Failure::Failed(format!("{} {what}: {}", self.name(), reason(why)));
+        match program::call(&mut command, schedule, self.patience) {
+            Ok(ended) if ended.status.code() == Some(NOT_THERE) && ended.output.is_empty() => {
+                let why = format!("{} ended with {NOT_THERE} and no output: is it there?", self.name());
+                Err(Failure::Failed(why))
+            }
+            Ok(ended) => Ok(Some(ended)),
+            Err(Trouble::NoEnd(_)) => Ok(None),
+            Err(Trouble::CannotStart(why)) => Err(failed("cannot be started", &why)),
+            Err(Trouble::CannotWait(why)) => Err(failed("has no end", &why)),
+            Err(Trouble::CannotRead(why)) => Err(failed("cannot be read from", &why)),
         }
-        Ok(ended)
-    }
-
-    /// Why there is nothing of it to look at.
-    fn told(&self, trouble: &Trouble) -> Failure {
-        let name = self.name();
-        Failure::Failed(match trouble {
-            Trouble::CannotStart(why) => format!("{name} cannot be started: {}", reason(why)),
-            Trouble::CannotWait(why) => format!("{name} has no end: {}", reason(why)),
-            Trouble::CannotRead(why) => format!("{name} cannot be read from: {}", reason(why)),
-            Trouble::NoEnd(patience) => format!("{name} was ended: {} seconds had passed", patience.as_secs()),
-        })
     }
 }
 

@@ -180,11 +180,10 @@ fn shown(line: Option<&str>) -> String {
 
 /// What a program prints for a schedule; a crash is no listing.
 fn listing_of(program: &Program, schedule: &[u8]) -> Result<(String, Vec<u8>), Failure> {
-    let ended = program.call(schedule)?;
-    match ended.status.code() {
-        Some(_) => Ok((program.name(), ended.output)),
-        None => Err(Failure::Failed(format!("{} crashed", program.name()))),
-    }
+    let failed = |why: &str| Failure::Failed(format!("{} {why}", program.name()));
+    let ended = program.call(schedule)?.ok_or_else(|| failed("took too long, and was ended"))?;
+    ended.status.code().ok_or_else(|| failed("crashed"))?;
+    Ok((program.name(), ended.output))
 }
 
 /// The proved listing of a schedule.

@@ -40,7 +40,7 @@ pub fn act(mut words: Words) -> Ended {
 
 /// Whether the command fails for a schedule.
 fn fails(program: &Program, schedule: &[u8], differs: bool) -> Result<bool, Failure> {
-    let ended = program.call(schedule)?;
+    let Some(ended) = program.call(schedule)? else { return Ok(true) };
     Ok(match differs {
         true => ended.output != true_listing(schedule).as_bytes(),
         false => !ended.status.success(),
