@@ -33,6 +33,7 @@ impl Object {
 }
 
 impl Default for Object {
+    /// An object without fields.
     fn default() -> Object {
         Object::new()
     }

@@ -34,6 +34,18 @@ const SUBCOMMANDS: &[Subcommand] = &[
     },
 ];
 
+/// What the help says before the subcommands.
+const HEAD: &str = "\
+staubharfe SUBCOMMAND [FILE]: what the protocol says of a schedule. Without a file, standard input is read.
+
+";
+
+/// And behind them.
+const FOOT: &str = "
+`staubharfe SUBCOMMAND --help` says more. Status: 0; 1 for a refusal or a claim that does not hold; 2 for bad usage, or
+a read or write that failed. What is said of a run was computed by the proved functions.
+";
+
 /// Does what the words ask for; nothing panics, and the status says how it ended.
 fn main() -> ExitCode {
     let mut words: Vec<OsString> = std::env::args_os().skip(1).collect();
@@ -83,12 +95,9 @@ fn unknown(name: &OsString) -> String {
 
 /// The help of the whole program.
 fn help() -> String {
-    let mut text =
-        "staubharfe SUBCOMMAND [FILE]: what the protocol says of a schedule. Without a file, standard input.\n\n"
-            .to_string();
+    let mut text = HEAD.to_string();
     for Subcommand { name, does, .. } in SUBCOMMANDS {
         text += &format!("  {name:<8} {does}\n");
     }
-    text + "\n`staubharfe SUBCOMMAND --help` says more. Status: 0; 1 for a refusal or a claim that does not hold; 2 for bad\n\
-            usage, or a read or write that failed. What is said of a run was computed by the proved functions.\n"
+    text + FOOT
 }

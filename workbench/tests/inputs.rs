@@ -167,9 +167,10 @@ fn rubbish_and_five_megabytes() {
     let rubbish: Vec<u8> = (0..5_000_000u32).map(|k| (k.wrapping_mul(2_654_435_761) >> 13) as u8).collect();
     let started = [&[1, 3, 0][..], &rubbish].concat();
     for input in [&zeros, &rubbish, &started] {
-        for reader in [&["run"][..], &["run", "--json"], &["why"], &["draw"]] {
-            check(reader, input, To::Read, 1, "20 TOO_LONG at offset 0");
-        }
+        check(&["run"], input, To::Read, 1, "20 TOO_LONG at offset 0");
+    }
+    for reader in [&["run", "--json"][..], &["why"], &["draw"]] {
+        check(reader, &started, To::Read, 1, "20 TOO_LONG at offset 0");
     }
     check(&["read"], &rubbish, To::Read, 1, "20 TOO_LONG at offset 0");
     check(&["write"], &rubbish, To::Read, 1, "standard input:1:2: byte bb is no text; is this a schedule already?");

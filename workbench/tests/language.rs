@@ -87,7 +87,7 @@ fn examples_and_generated_schedules_come_back() {
     for index in [0, 1, 2, 10, 12, 13, 14, 15, 28, 29, 30, 31] {
         let mut schedule = generate::schedule(8, index);
         if schedule.len() <= MAX_BYTES {
-            schedule.truncate(3_000);
+            schedule.truncate(1_500);
         }
         round_trips(&format!("generated {index}"), &schedule);
     }

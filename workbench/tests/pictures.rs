@@ -9,10 +9,10 @@ use staubharfe::picture;
 use staubharfe::proved::Rules;
 
 /// How many generated schedules are drawn.
-const GENERATED: u64 = 32;
+const GENERATED: u64 = 16;
 
 /// How many of their steps.
-const STEPS: usize = 80;
+const STEPS: usize = 70;
 
 /// The picture of a schedule's run, if it is accepted.
 fn draw(schedule: &[u8]) -> Option<String> {

@@ -30,6 +30,7 @@ fn examples() -> Vec<(PathBuf, Vec<u8>, String)> {
 
 /// Puts a change into a world, forwards or backwards.
 fn put(world: &mut World, change: &Change, forwards: bool) {
+    /// What a place has then, and whether it is in use.
     fn of<T: Zeros>(forwards: bool, was: Option<T>, now: Option<T>) -> (T, bool) {
         let value = if forwards { now } else { was };
         (value.unwrap_or(T::ZEROS), value.is_some())

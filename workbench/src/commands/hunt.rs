@@ -35,8 +35,8 @@ words of the schedule language, small; `staubharfe write` makes bytes of it.
 
 A seed gives the same result on every machine, so a long hunt can be spread by ranges of seeds.
 
-Status: for --claim, 1 where a schedule is found (the claim does not hold) and 0 where none is; for --answer, 0 where one
-is found and 1 where none is; 2 for bad usage, or a write that failed.
+Status: for --claim, 1 where a schedule is found (the claim does not hold) and 0 where none is; for --answer, 0 where
+one is found and 1 where none is; 2 for bad usage, or a write that failed.
 ";
 
 /// The most worlds of a breadth-first search, where nothing is said.

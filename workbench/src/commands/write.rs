@@ -21,7 +21,8 @@ In brackets is what may be left out.
   propose SERVER [sending X] [place P]
   settle SERVER [sending X] [place P]
   deliver SERVER
-  forge packet from SERVER to SERVER sending X    X is SENDER.ID.SLOT as in the listing, 0.1.0; any sender may be claimed
+  forge packet from SERVER to SERVER sending X    X is SENDER.ID.SLOT as in the listing, 0.1.0; any
+                                                  sender may be claimed
   forge send SERVER id ID digest D                D is 64 hex digits, or `of slot SLOT`
   forge receive SERVER execution SENDER.ID digest D
   bytes HEX ..                                    bytes as they are, for what is no record

@@ -1,10 +1,10 @@
 //! Breadth first from a fresh world, step by step.
 //!
 //! Tried are: a few requests, before anything else and in one order; one multicast and one forged send a server; a
-//! forged packet of each sender's first sending, with each slot, to each correct server, arriving at once; a liar's call
-//! with the right digest; and every arrival, propose, settle and deliver that is due. Where quiet is asked for, all that
-//! is due is done behind each world, and the schedule found is one with the fewest steps before that. Worlds that differ
-//! in nothing but the places of packets and entries count as one.
+//! forged packet of each sender's first sending, with each slot, to each correct server, arriving at once; a liar's
+//! call with the right digest; and every arrival, propose, settle and deliver that is due. Where quiet is asked for,
+//! all that is due is done behind each world, and the schedule found is one with the fewest steps before that. Worlds
+//! that differ in nothing but the places of packets and entries count as one.
 
 use std::collections::HashSet;
 
