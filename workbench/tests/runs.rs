@@ -139,6 +139,34 @@ fn a_mistake_is_shown_as_one() {
 }
 
 #[test]
+fn the_incident_is_explained() {
+    let schedule = fs::read(Path::new(env!("CARGO_MANIFEST_DIR")).join("../examples/incident5.bin")).unwrap();
+    let run = trace::trace(&schedule).outcome.unwrap();
+    let step = &run.steps[5];
+    assert_eq!((step.text.as_str(), step.answer.number()), ("propose 1 place 0", 1));
+    assert_eq!(step.why, "slot 1's digest differs from execution 0.1's, which is slot 0's");
+    let changes: Vec<String> = step.changes.iter().map(Change::text).collect();
+    assert_eq!(changes, ["hold place 0 of server 1: stage-one entry 0.1.1 -> free"]);
+}
+
+#[test]
+fn what_stands_open_is_told() {
+    let text =
+        "start 5\nrequest number 1\nmulticast 0 slot 0\narrive at 1 from 0\npropose 1\narrive at 2 from 0\npropose 2\n";
+    let schedule = staubharfe::language::to_bytes(text).unwrap();
+    let verdict = trace::trace(&schedule).outcome.unwrap().verdict;
+    let open = [
+        "packet 0.1.0 from 0 to 3 under way",
+        "packet 0.1.0 from 0 to 4 under way",
+        "server 0: stage-two entry 0.1.0 at place 0",
+        "server 1: stage-two entry 0.1.0 at place 0",
+        "server 2: stage-two entry 0.1.0 at place 0",
+    ];
+    assert_eq!((verdict.quiet, verdict.open), (false, open.map(str::to_string).to_vec()));
+    assert_eq!((verdict.behind, verdict.numbered), (vec![0, 1, 2, 3, 4], 1));
+}
+
+#[test]
 fn json_has_the_steps_and_the_refusal() {
     let refused = trace::json(&trace::trace(&[1, 3, 0, 11]));
     assert_eq!(
