@@ -14,6 +14,7 @@ const SUBCOMMANDS: &[Subcommand] = &[
     Subcommand { name: "read", does: "a schedule to text", help: commands::read::HELP, act: commands::read::act },
     Subcommand { name: "why", does: "what decided each step", help: commands::why::HELP, act: commands::why::act },
     Subcommand { name: "draw", does: "a picture of a run", help: commands::draw::HELP, act: commands::draw::act },
+    Subcommand { name: "page", does: "a run as an HTML file", help: commands::page::HELP, act: commands::page::act },
     Subcommand {
         name: "compare",
         does: "where two runs differ",

@@ -56,7 +56,7 @@ fn check_os(words: &[&OsStr], input: &[u8], to: To, status: i32, says: &str) -> 
 }
 
 /// Every subcommand that reads a schedule or its text, with what it needs.
-const READERS: [&[&str]; 9] = [
+const READERS: [&[&str]; 10] = [
     &["run"],
     &["run", "--verdict"],
     &["run", "--json"],
@@ -64,6 +64,7 @@ const READERS: [&[&str]; 9] = [
     &["read"],
     &["why"],
     &["draw"],
+    &["page"],
     &["compare", "--mistake", "MaskGrows"],
     &["shrink"],
 ];
@@ -104,7 +105,7 @@ fn outputs_that_cannot_be_written() {
 
 #[test]
 fn bad_usage() {
-    let table: [(&[&str], &str); 26] = [
+    let table: [(&[&str], &str); 28] = [
         (&[], "which subcommand?"),
         (&["dance"], "\"dance\" is no subcommand"),
         (&[""], "which subcommand?"),
@@ -118,6 +119,8 @@ fn bad_usage() {
         (&["why", "--step", "99999999999999999999"], "--step cannot be"),
         (&["why", "--mistake", "Typo"], "--mistake is one of WrongDigestRecorded, MaskGrows,"),
         (&["draw", "--mistake"], "--mistake needs a value"),
+        (&["page", "--title"], "--title needs a value"),
+        (&["page", "--mistake", "Typo"], "--mistake is one of WrongDigestRecorded, MaskGrows,"),
         (&["compare"], "two files are compared, or --mistake or --program is said"),
         (&["compare", "one"], "two files are compared"),
         (&["compare", "--mistake", "MaskGrows", "--program", "x"], "do not go together"),
@@ -169,7 +172,7 @@ fn rubbish_and_five_megabytes() {
     for input in [&zeros, &rubbish, &started] {
         check(&["run"], input, To::Read, 1, "20 TOO_LONG at offset 0");
     }
-    for reader in [&["run", "--json"][..], &["why"], &["draw"]] {
+    for reader in [&["run", "--json"][..], &["why"], &["draw"], &["page"]] {
         check(reader, &started, To::Read, 1, "20 TOO_LONG at offset 0");
     }
     check(&["read"], &rubbish, To::Read, 1, "20 TOO_LONG at offset 0");
@@ -208,7 +211,7 @@ fn commands_that_do_not_fail_or_cannot_be_run() {
 #[test]
 fn help_for_each() {
     let help = check(&["--help"], b"", To::Read, 0, "");
-    for name in ["run", "write", "read", "why", "draw", "compare", "shrink", "hunt"] {
+    for name in ["run", "write", "read", "why", "draw", "page", "compare", "shrink", "hunt"] {
         assert!(help.contains(&format!("\n  {name} ")), "{help}");
         let own = check(&[name, "--help"], b"", To::Read, 0, "");
         assert!(own.starts_with(&format!("staubharfe {name} ")) && own.contains("\nStatus: "), "{own}");

@@ -3,6 +3,7 @@
 pub mod compare;
 pub mod draw;
 pub mod hunt;
+pub mod page;
 pub mod read;
 pub mod run;
 pub mod shrink;
