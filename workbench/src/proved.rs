@@ -4,7 +4,7 @@
 //! as such wherever it is shown. Worlds leave here in the second implementation's types, which have names for all of
 //! document 01's words; they are translated field by field and computed by nobody but who is asked.
 
-use bridge::translate::to_second;
+use bridge_tests::translate::to_second;
 use second::quiet;
 use second::schedule::{self, Ran, Refusal, Refused, Steps};
 use second::sha256::Digest;

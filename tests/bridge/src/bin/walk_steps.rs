@@ -3,7 +3,7 @@
 
 use std::process;
 
-use bridge::walk::Tally;
+use bridge_tests::walk::Tally;
 use second::options::Options;
 use second::random::Random;
 use second::{compare, generate, shrink};
