@@ -1,8 +1,7 @@
 //! Damages of worlds: one for each clause of soundness, some that leave a world sound, and any value in any field.
 
+use bridge::world::{Entry, Execution, Packet, Request, World, DELIVERIES, EXECUTIONS, PLACES, REQUESTS, SERVERS};
 use second::random::Random;
-
-use crate::world::{Entry, Execution, Packet, Request, World, DELIVERIES, EXECUTIONS, PLACES, REQUESTS, SERVERS};
 
 /// A damage: the name of what it breaks or leaves, and the change. None where the world has nothing of the kind.
 pub type Damage = (&'static str, fn(&mut World) -> Option<()>);

@@ -1,6 +1,6 @@
 //! A world that passed the boundary as the second implementation has it, so that both can be asked about one world.
 
-use crate::world::{Delivered, Entry, Execution, Executions, Item, Packet, Request, Requests, World};
+use bridge::world::{Delivered, Entry, Execution, Executions, Item, Packet, Request, Requests, World};
 use second::world as other;
 use second::world::{List, Sending};
 

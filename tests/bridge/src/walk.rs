@@ -1,13 +1,16 @@
 //! Schedules done by single steps in place of a run, and damaged worlds on the way.
 
+use bridge::world::{Taken, World};
+use bridge::{run, start, step, DONE};
 use second::random::Random;
 use second::schedule::{self, Refusal, Refused, Steps};
 use second::{quiet, sound};
 
 use crate::damage::{self, Damage, SOUND, UNSOUND};
 use crate::translate::to_second;
-use crate::world::{Taken, World};
-use crate::{run, start, step, BAD_WORLD, DONE};
+
+/// The number of an unsound world.
+const BAD_WORLD: u8 = Refusal::BadWorld as u8;
 
 /// About how many worlds of one schedule are looked at, sampled evenly.
 const LOOKS: usize = 24;
@@ -147,7 +150,7 @@ fn same_step(world: &World, record: &[u8]) -> Result<Taken, String> {
     ensure(taken.number == number, &format!("the step answers {}, there {number}", taken.number))?;
     ensure(to_second(&taken.world).is_some_and(|world| world == other), "the world after the step differs")?;
     if number != BAD_WORLD {
-        ensure(crate::quiet(&taken.world) == quiet::is_quiet(&other), "only one of the two says quiet")?;
+        ensure(bridge::quiet(&taken.world) == quiet::is_quiet(&other), "only one of the two says quiet")?;
     }
     Ok(taken)
 }
@@ -168,7 +171,7 @@ fn same_run(bytes: &[u8]) -> Result<(World, Vec<u8>), String> {
     let other = schedule::run(bytes, &mut others).map_err(|refused| format!("refused there: {refused:?}"))?;
     ensure((ran.number, ran.offset, ran.records) == (DONE, 0, other.records), "the runs end differently")?;
     ensure(answers == others, "the answers differ")?;
-    ensure(crate::quiet(&ran.world) == quiet::is_quiet(&other.world), "only one of the two says quiet")?;
+    ensure(bridge::quiet(&ran.world) == quiet::is_quiet(&other.world), "only one of the two says quiet")?;
     ensure(to_second(&ran.world) == Some(other.world), "the worlds at the end differ")?;
     answers.truncate(ran.records);
     Ok((ran.world, answers))

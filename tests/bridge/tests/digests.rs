@@ -1,7 +1,7 @@
 //! Compares the proved digest with the one of the second implementation: its number and its bytes.
 
 use bridge::world::DIGEST;
-use bridge::{sha256, DIGEST_LONG, DONE};
+use bridge::{sha256, Refusal, DONE};
 use second::hex;
 use second::random::Random;
 use second::sha256::short_digest;
@@ -19,7 +19,7 @@ fn agrees(message: &[u8]) {
     let number = sha256(message, &mut bytes);
     let expected = match short_digest(message) {
         Some(digest) => (DONE, digest),
-        None => (DIGEST_LONG, [0; DIGEST]),
+        None => (Refusal::DigestLong.number(), [0; DIGEST]),
     };
     assert_eq!((number, bytes), expected, "a message of {} bytes: {}", message.len(), hex::to_text(message));
 }

@@ -3,9 +3,9 @@
 use std::fs;
 use std::path::Path;
 
-use bridge::translate::to_second;
 use bridge::world::Item;
 use bridge::{run, DONE};
+use bridge_tests::translate::to_second;
 use second::listing;
 use second::schedule::{Ran, Refusal, MAX_BYTES};
 

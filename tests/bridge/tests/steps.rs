@@ -1,8 +1,8 @@
 //! Starts and single steps of the proved program, from Rust.
 
-use bridge::translate::to_second;
 use bridge::world::{Taken, World};
 use bridge::{start, step, DONE};
+use bridge_tests::translate::to_second;
 use second::schedule::{self, Refusal};
 
 /// The world of three servers, none of them faulty, before the first step.

@@ -58,7 +58,7 @@ fn write_server(text: &mut String, world: &World, server: u8) -> std::fmt::Resul
     let delivered = world.server(server).delivered.stored();
     write!(text, "server {server} {}", delivered.len())?;
     for item in delivered {
-        write!(text, " {}.{}.{}", item.sender, item.id, item.slot)?;
+        write!(text, " {item}")?;
     }
     writeln!(text)
 }

@@ -56,6 +56,19 @@ impl Refusal {
         "DIGEST_LONG",
     ];
 
+    /// Every refusal, from the first number on.
+    pub const ALL: [Refusal; 9] = [
+        Refusal::TooLong,
+        Refusal::NoStart,
+        Refusal::BadKind,
+        Refusal::SecondStart,
+        Refusal::Cut,
+        Refusal::BadStart,
+        Refusal::OutSmall,
+        Refusal::BadWorld,
+        Refusal::DigestLong,
+    ];
+
     /// Document 01's number.
     pub fn number(self) -> u8 {
         self as u8

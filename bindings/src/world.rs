@@ -1,6 +1,8 @@
 //! The layout of a world, as it passes by value: the structs of `crates/world/src`, field by field and in their order,
 //! laid out as C does (`repr(C)` on both sides). `staubharfe.h` says the same for C.
 
+use crate::answers::{Answer, Refusal};
+
 /// The sizes of document 01.
 pub const SERVERS: usize = 8;
 pub const REQUESTS: usize = 128;
@@ -139,6 +141,17 @@ pub struct Run {
     pub records: usize,
     pub number: u8,
     pub world: World,
+}
+
+impl Taken {
+    /// The number as an answer, or as a refusal.
+    ///
+    /// # Panics
+    /// Where it is neither, which the contracts of `start` and `step` exclude.
+    pub fn answer(&self) -> Result<Answer, Refusal> {
+        let refusal = || Refusal::of(self.number).expect("a number is an answer or a refusal");
+        Answer::of(self.number).ok_or_else(refusal)
+    }
 }
 
 /// The sizes that `staubharfe.h` holds its structs to.

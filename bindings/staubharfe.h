@@ -1,4 +1,4 @@
-/* The boundary for C: what `rt staticlib bridge` writes to target/staticlib/libbridge.a. The structs are those of
+/* The boundary for C and C++: what `rt staticlib bridge` writes to target/staticlib/libbridge.a. The structs are those of
  * crates/world/src, crates/rehearsal/src/stepping.rt and crates/bridge/src/lib.rt, field by field; src/world.rs says
  * the same for Rust.
  *
@@ -11,6 +11,41 @@
 #include <stdbool.h>
 #include <stddef.h>
 #include <stdint.h>
+
+#ifdef __cplusplus
+#define STAUBHARFE_ASSERT static_assert
+extern "C" {
+#else
+#define STAUBHARFE_ASSERT _Static_assert
+#endif
+
+/* The answers to a step (0 to 13) and the refusals (20 to 28), each with its name: docs/PROTOCOL.md says when. */
+#define STAUBHARFE_EACH_NUMBER(X)                                                                                      \
+    X(DONE, 0) X(DROPPED, 1) X(WAIT, 2) X(DISMISSED, 3) X(BAD_SERVER, 4) X(WRONG_SIDE, 5) X(NO_SUCH, 6)                \
+    X(BAD_FIELD, 7) X(SAME_DIGEST, 8) X(NO_ROOM, 9) X(QUOTA, 10) X(UNKNOWN, 11) X(WRONG_DIGEST, 12) X(RECALL, 13)      \
+    X(TOO_LONG, 20) X(NO_START, 21) X(BAD_KIND, 22) X(SECOND_START, 23) X(CUT, 24) X(BAD_START, 25) X(OUT_SMALL, 26)   \
+    X(BAD_WORLD, 27) X(DIGEST_LONG, 28)
+
+/* STAUBHARFE_DONE, STAUBHARFE_DROPPED and so on. */
+enum staubharfe_number {
+#define STAUBHARFE_ONE(name, number) STAUBHARFE_##name = number,
+    STAUBHARFE_EACH_NUMBER(STAUBHARFE_ONE)
+#undef STAUBHARFE_ONE
+};
+
+/* A number's name as text, or a null pointer where no answer and no refusal has it. */
+static inline const char *staubharfe_name(uint8_t number)
+{
+    switch (number) {
+#define STAUBHARFE_ONE(name, number) \
+    case number:                     \
+        return #name;
+        STAUBHARFE_EACH_NUMBER(STAUBHARFE_ONE)
+#undef STAUBHARFE_ONE
+    default:
+        return NULL;
+    }
+}
 
 /* The sizes of document 01. */
 enum {
@@ -126,9 +161,9 @@ struct staubharfe_ran {
     struct staubharfe_world world;
 };
 
-_Static_assert(sizeof(struct staubharfe_requests) == 8196, "as in src/world.rs");
-_Static_assert(sizeof(struct staubharfe_executions) == 644, "as in src/world.rs");
-_Static_assert(sizeof(struct staubharfe_world) == 26700, "as in src/world.rs");
+STAUBHARFE_ASSERT(sizeof(struct staubharfe_requests) == 8196, "as in src/world.rs");
+STAUBHARFE_ASSERT(sizeof(struct staubharfe_executions) == 644, "as in src/world.rs");
+STAUBHARFE_ASSERT(sizeof(struct staubharfe_world) == 26700, "as in src/world.rs");
 
 /* The digest of a message of at most 55 bytes into out, and 0; for a longer one zeros, and 28. */
 uint8_t staubharfe_sha256(const uint8_t *message, size_t length, uint8_t out[STAUBHARFE_DIGEST]);
@@ -144,5 +179,9 @@ struct staubharfe_ran staubharfe_run(const uint8_t *schedule, size_t length, uin
 
 /* Whether a world is quiet. */
 bool staubharfe_quiet(struct staubharfe_world world);
+
+#ifdef __cplusplus
+}
+#endif
 
 #endif
