@@ -223,6 +223,17 @@ fn commands_that_do_not_fail_or_cannot_be_run() {
 }
 
 #[test]
+fn a_planted_mistake_is_said_and_told_by_the_status() {
+    let incident = include_bytes!("../../examples/incident5.bin");
+    let words = ["run", "--verdict", "--mistake", "WrongDigestRecorded"];
+    let printed = check(&words, incident, To::Read, 1, "with the mistake WrongDigestRecorded, by the second");
+    assert!(printed.contains("\nserver 1 0\n") && printed.contains("\nagreement: broken at step "), "{printed}");
+    let right = check(&["run", "--verdict"], incident, To::Read, 0, "");
+    assert!(right.starts_with(include_str!("../../examples/incident5.out")), "{right}");
+    check(&["run", "--mistake", "MaskGrows"], CASE_A, To::Read, 0, "with the mistake MaskGrows");
+}
+
+#[test]
 fn help_for_each() {
     let help = check(&["--help"], b"", To::Read, 0, "");
     for name in ["run", "write", "read", "why", "draw", "page", "compare", "shrink", "hunt"] {

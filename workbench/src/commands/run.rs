@@ -1,15 +1,15 @@
 //! `run`: the listing of a schedule, a verdict in words, or all of it as JSON.
 
 use second::listing;
-use second::schedule::{Refusal, Refused};
+use second::schedule::{Ran, Refusal, Refused};
 
 use crate::command_line::{Ended, Failure, Printed, Words, REFUSED};
 use crate::files;
 use crate::proved::{self, Rules};
-use crate::trace::{self, Trace};
+use crate::trace::{self, Run, Trace};
 
 pub const HELP: &str = "\
-staubharfe run [--verdict] [--json] [FILE]
+staubharfe run [--verdict] [--json] [--mistake NAME] [FILE]
 
 Runs a schedule, given as bytes, and prints its listing: the answer to each step, what each server has delivered, and
 how many numbers were given. A refused schedule prints `refused NUMBER OFFSET`.
@@ -18,8 +18,11 @@ how many numbers were given. A refused schedule prints `refused NUMBER OFFSET`.
               whether the correct servers agree, and who of them is behind
   --json      prints one JSON object in place of the listing: the steps with their answers, reasons and changes, the
               world at the end, and the verdict (workbench/README.md has the format)
+  --mistake NAME   the run with a planted mistake, by the second implementation (the proved functions have none to
+                   plant): WrongDigestRecorded, MaskGrows, UnsealedDropped or ClaimedSenderIsOrigin. A note says so
 
-Status: 0; 1 where the schedule is refused; 2 for bad usage, or a read or write that failed.
+Status: 0; 1 where the schedule is refused, and where a mistake has broken a claim of demand 3; 2 for bad usage, or a
+read or write that failed.
 ";
 
 /// Prints the listing, or JSON.
@@ -28,28 +31,39 @@ pub fn act(mut words: Words) -> Ended {
     if verdict && json {
         return Err(Failure::Usage("--json has the verdict already: one of the two is enough".to_string()));
     }
+    let rules = words.rules()?;
     let input = files::input(&mut words)?;
     words.end()?;
-    if json {
-        let trace = trace::trace(&input.bytes);
-        let printed = Printed::new(trace::json(&trace));
-        return Ok(match &trace.outcome {
-            Ok(_) => printed,
-            Err(refused) => printed.status(REFUSED).note(hint(&input.bytes, *refused)),
+    if rules == Rules::Proved && !verdict && !json {
+        return Ok(match proved::run(&input.bytes, rules) {
+            Ok((ran, answers)) => Printed::new(listing::of_run(&ran, &answers)),
+            Err(refused) => refusal(&input.bytes, refused),
         });
     }
-    match proved::run(&input.bytes, Rules::Proved) {
-        Err(refused) => Ok(refusal(&input.bytes, refused)),
-        Ok((ran, answers)) => {
-            let lines = if verdict { verdict_lines(&trace::trace(&input.bytes)) } else { String::new() };
-            Ok(Printed::new(listing::of_run(&ran, &answers) + &lines))
-        }
-    }
+    let trace = trace::trace_by(&input.bytes, rules);
+    Ok(match &trace.outcome {
+        Err(refused) if json => Printed::new(trace::json(&trace)).status(REFUSED).note(hint(&input.bytes, *refused)),
+        Err(refused) => refusal(&input.bytes, *refused),
+        Ok(run) if json => mistaken(&trace, run, trace::json(&trace)),
+        Ok(run) => mistaken(&trace, run, traced_listing(run, verdict)),
+    })
 }
 
-/// The verdict of a run.
-fn verdict_lines(trace: &Trace) -> String {
-    trace.outcome.as_ref().map_or(String::new(), |run| run.verdict.lines())
+/// The listing of a run that was followed, and its verdict if it is asked for.
+fn traced_listing(run: &Run, verdict: bool) -> String {
+    let answers: Vec<u8> = run.steps.iter().map(|step| step.answer.number()).collect();
+    let ran = Ran { world: run.end.clone(), records: answers.len() };
+    let lines = if verdict { run.verdict.lines() } else { String::new() };
+    listing::of_run(&ran, &answers) + &lines
+}
+
+/// The output, with a note and a status where a mistake was planted.
+fn mistaken(trace: &Trace, run: &Run, output: String) -> Printed {
+    let printed = Printed::new(output).status(if run.verdict.broken.is_some() { REFUSED } else { 0 });
+    match trace.rules {
+        Rules::Proved => printed,
+        Rules::Mistaken(mistake) => printed.note(format!("with the mistake {mistake:?}, by the second implementation")),
+    }
 }
 
 /// What is printed of a refused schedule: its listing, and a note.
