@@ -49,15 +49,15 @@ int main(void)
         return 2;
     }
     struct staubharfe_ran ran = staubharfe_run(schedule, length, answers, sizeof answers);
-    if (ran.number == STAUBHARFE_DONE) {
+    if (ran.code == STAUBHARFE_DONE) {
         print_run(&ran, answers);
     } else {
-        printf("refused %u %zu\n", ran.number, ran.offset);
-        fprintf(stderr, "%s at byte %zu\n", staubharfe_name(ran.number), ran.offset);
+        printf("refused %u %zu\n", ran.code, ran.offset);
+        fprintf(stderr, "%s at byte %zu\n", staubharfe_name(ran.code), ran.offset);
     }
     if (fflush(stdout) != 0 || ferror(stdout)) {
         perror("cannot write standard output");
         return 2;
     }
-    return ran.number == STAUBHARFE_DONE ? 0 : 1;
+    return ran.code == STAUBHARFE_DONE ? 0 : 1;
 }

@@ -1,4 +1,4 @@
-//! Document 01's answers and refusals as enums: each with its number and its name.
+//! Document 01's answers and refusals as enums: each with its code and its name.
 
 /// The answer to a step. Only `Done` and `Dropped` change the world.
 #[derive(Clone, Copy, PartialEq, Eq, Debug)]
@@ -21,7 +21,7 @@ pub enum Answer {
 }
 
 impl Answer {
-    /// Every answer with its name, by number.
+    /// Every answer with its name, by code.
     pub const ALL: [(Answer, &'static str); 14] = [
         (Answer::Done, "DONE"),
         (Answer::Dropped, "DROPPED"),
@@ -39,19 +39,19 @@ impl Answer {
         (Answer::Recall, "RECALL"),
     ];
 
-    /// The answer of a number, or none.
-    pub fn of(number: u8) -> Option<Answer> {
-        Answer::ALL.get(usize::from(number)).map(|(answer, _)| *answer)
+    /// The answer of a code, or none.
+    pub fn of(code: u8) -> Option<Answer> {
+        Answer::ALL.get(usize::from(code)).map(|(answer, _)| *answer)
     }
 
-    /// Its number.
-    pub fn number(self) -> u8 {
+    /// Its code.
+    pub fn code(self) -> u8 {
         self as u8
     }
 
     /// Its name.
     pub fn name(self) -> &'static str {
-        Answer::ALL[usize::from(self.number())].1
+        Answer::ALL[usize::from(self.code())].1
     }
 }
 
@@ -71,7 +71,7 @@ pub enum Refusal {
 }
 
 impl Refusal {
-    /// Every refusal with its name, by number from 20 on.
+    /// Every refusal with its name, by code from 20 on.
     pub const ALL: [(Refusal, &'static str); 9] = [
         (Refusal::TooLong, "TOO_LONG"),
         (Refusal::NoStart, "NO_START"),
@@ -84,20 +84,20 @@ impl Refusal {
         (Refusal::DigestLong, "DIGEST_LONG"),
     ];
 
-    /// The refusal of a number, or none.
-    pub fn of(number: u8) -> Option<Refusal> {
-        let place = number.checked_sub(Refusal::TooLong as u8)?;
+    /// The refusal of a code, or none.
+    pub fn of(code: u8) -> Option<Refusal> {
+        let place = code.checked_sub(Refusal::TooLong as u8)?;
         Refusal::ALL.get(usize::from(place)).map(|(refusal, _)| *refusal)
     }
 
-    /// Its number.
-    pub fn number(self) -> u8 {
+    /// Its code.
+    pub fn code(self) -> u8 {
         self as u8
     }
 
     /// Its name.
     pub fn name(self) -> &'static str {
-        Refusal::ALL[usize::from(self.number() - Refusal::TooLong as u8)].1
+        Refusal::ALL[usize::from(self.code() - Refusal::TooLong as u8)].1
     }
 }
 
@@ -106,16 +106,16 @@ mod tests {
     use super::*;
 
     #[test]
-    fn each_stands_at_its_number() {
+    fn each_stands_at_its_code() {
         for (place, (answer, name)) in Answer::ALL.into_iter().enumerate() {
             assert_eq!(
-                (usize::from(answer.number()), answer.name(), Answer::of(place as u8)),
+                (usize::from(answer.code()), answer.name(), Answer::of(place as u8)),
                 (place, name, Some(answer))
             );
         }
         for (place, (refusal, name)) in Refusal::ALL.into_iter().enumerate() {
-            let number = place as u8 + 20;
-            assert_eq!((refusal.number(), refusal.name(), Refusal::of(number)), (number, name, Some(refusal)));
+            let code = place as u8 + 20;
+            assert_eq!((refusal.code(), refusal.name(), Refusal::of(code)), (code, name, Some(refusal)));
         }
         assert_eq!([14, 19, 20, 28, u8::MAX].map(Answer::of), [None; 5]);
         assert_eq!([0, 13, 19, 29, u8::MAX].map(Refusal::of), [None; 5]);

@@ -26,9 +26,10 @@ impl Record {
         Record::of(&[&[0x01, n, faulty]])
     }
 
-    /// 02: a client's request is stored in the next slot; its seal is good at the servers in the mask.
-    pub fn request(client: u8, number: u32, seals: u8, command: &[u8; COMMAND]) -> Record {
-        Record::of(&[&[0x02, client], &number.to_be_bytes(), &[seals], command])
+    /// 02: a client's request, with the serial that the client gave it, is stored in the next slot; its seal is good at
+    /// the servers in the mask.
+    pub fn request(client: u8, serial: u32, seals: u8, command: &[u8; COMMAND]) -> Record {
+        Record::of(&[&[0x02, client], &serial.to_be_bytes(), &[seals], command])
     }
 
     /// 03: a correct server sends the request in a slot.

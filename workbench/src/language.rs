@@ -229,22 +229,17 @@ impl Writer {
             let [START, n, faulty, ..] = self.bytes[..] else {
                 return Err("the schedule has no start, so there is no world here".to_string());
             };
-            let refused = |why: schedule::Refusal| format!("the start is refused with {} {}", why.number(), why.name());
+            let refused = |why: schedule::Refusal| format!("the start is refused with {} {}", why.code(), why.name());
             self.runner = Some(Runner::start(Rules::Proved, n, faulty).map_err(refused)?);
             self.done = 3;
         }
         let runner = self.runner.as_mut().ok_or("there is no world here")?;
         while self.done < self.bytes.len() {
             let record = &self.bytes[self.done..];
-            let (number, name) =
-                match schedule::read_step(record).and_then(|(_, size)| runner.step(record).map(|_| size)) {
-                    Ok(size) => {
-                        self.done += size;
-                        continue;
-                    }
-                    Err(refusal) => (refusal.number(), refusal.name()),
-                };
-            return Err(format!("what stands before is refused with {number} {name} at offset {}", self.done));
+            let taken = schedule::read_step(record).and_then(|(_, size)| runner.step(record).map(|_| size));
+            let (place, before) = (self.done, "what stands before is refused with");
+            let refused = |why: schedule::Refusal| format!("{before} {} {} at offset {place}", why.code(), why.name());
+            self.done += taken.map_err(refused)?;
         }
         Ok(runner.world())
     }

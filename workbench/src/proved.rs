@@ -48,7 +48,7 @@ impl Runner {
         match rules {
             Rules::Proved => {
                 let taken = bridge::start(n, faulty);
-                done(taken.number)?;
+                done(taken.code)?;
                 Ok(Runner { world: translated(&taken.world), engine: Engine::Proved(Box::new(taken.world)) })
             }
             Rules::Mistaken(mistake) => {
@@ -67,7 +67,7 @@ impl Runner {
         match &mut self.engine {
             Engine::Proved(raw) => {
                 let taken = bridge::step(raw, record);
-                let answer = answer_of(taken.number)?;
+                let answer = answer_of(taken.code)?;
                 **raw = taken.world;
                 self.world = translated(raw);
                 Ok(answer)
@@ -94,7 +94,7 @@ pub fn run(schedule: &[u8], rules: Rules) -> Result<(Ran, Vec<u8>), Refused> {
     let ran = match rules {
         Rules::Proved => {
             let ran = bridge::run(schedule, &mut answers);
-            done(ran.number).map_err(|refusal| refusal.at(ran.offset))?;
+            done(ran.code).map_err(|refusal| refusal.at(ran.offset))?;
             Ran { world: translated(&ran.world), records: ran.records }
         }
         Rules::Mistaken(mistake) => schedule::run_mistaken(schedule, &mut answers, mistake)?,
@@ -121,18 +121,18 @@ fn translated(world: &bridge::world::World) -> World {
     to_second(world).expect("start gives sound worlds and steps keep them so, which is proved")
 }
 
-/// Nothing, where a number says that all was done; else the refusal.
-fn done(number: u8) -> Result<(), Refusal> {
-    answer_of(number).map(drop)
+/// Nothing, where a code says that all was done; else the refusal.
+fn done(code: u8) -> Result<(), Refusal> {
+    answer_of(code).map(drop)
 }
 
-/// The answer of a number, or the refusal.
-fn answer_of(number: u8) -> Result<Answer, Refusal> {
-    if let Some(answer) = Answer::ALL.get(usize::from(number)) {
+/// The answer of a code, or the refusal.
+fn answer_of(code: u8) -> Result<Answer, Refusal> {
+    if let Some(answer) = Answer::ALL.get(usize::from(code)) {
         return Ok(*answer);
     }
-    let refusal = number.checked_sub(Refusal::FIRST).and_then(|place| Refusal::ALL.get(usize::from(place)));
-    Err(*refusal.expect("document 01 names every number that the proved functions give"))
+    let refusal = code.checked_sub(Refusal::FIRST).and_then(|place| Refusal::ALL.get(usize::from(place)));
+    Err(*refusal.expect("document 01 names every code that the proved functions give"))
 }
 
 /// The digest of a request's bytes.

@@ -288,8 +288,8 @@ pub fn json(trace: &Trace) -> String {
 
 /// A refusal.
 fn refused_json(refused: &Refused) -> String {
-    let (number, name) = (refused.refusal.number(), refused.refusal.name());
-    Object::new().field("number", number).text("name", name).field("offset", refused.offset).end()
+    let (code, name) = (refused.refusal.code(), refused.refusal.name());
+    Object::new().field("number", code).text("name", name).field("offset", refused.offset).end()
 }
 
 /// What a world has from its start on.
@@ -301,7 +301,7 @@ fn world_json(world: &World) -> String {
 /// One step.
 fn step_json(k: usize, step: &Traced) -> String {
     let object = Object::new().field("step", k).field("offset", step.offset).text("kind", kind(&step.step));
-    let object = object.text("text", &step.text).field("answer", step.answer.number()).text("name", step.answer.name());
+    let object = object.text("text", &step.text).field("answer", step.answer.code()).text("name", step.answer.name());
     let changes = list(step.changes.iter().map(Change::json));
     object.text("why", &step.why).field("changes", changes).field("quiet", step.quiet).end()
 }

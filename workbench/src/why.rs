@@ -40,14 +40,10 @@ pub fn of_answer(world: &World, step: &Step, answer: Answer, rules: proved::Rule
     match rules {
         _ if ruled == answer => text,
         proved::Rules::Mistaken(_) => {
-            format!("the planted mistake; by the rules it is {} {}: {text}", ruled.number(), ruled.name())
+            format!("the planted mistake; by the rules it is {} {}: {text}", ruled.code(), ruled.name())
         }
         proved::Rules::Proved => {
-            format!(
-                "no explanation: the proved answer stands, and {} {}, {text}, is wrong",
-                ruled.number(),
-                ruled.name()
-            )
+            format!("no explanation: the proved answer stands, and {} {}, {text}, is wrong", ruled.code(), ruled.name())
         }
     }
 }

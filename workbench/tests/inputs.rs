@@ -219,7 +219,8 @@ fn commands_that_do_not_fail_or_cannot_be_run() {
     check(&[&["shrink"], slow].concat(), b"\x01", To::Read, 0, "from 1 bytes in 1 pieces to 0 bytes in 0 pieces");
     check(&["compare", "--program", "yes"], CASE_A, To::Read, 2, "yes prints too much: more than 1048576 bytes");
     check(&["shrink", "--", "yes"], b"\x01", To::Read, 0, "from 1 bytes in 1 pieces to 0 bytes in 0 pieces");
-    check(&["compare", "--seconds", "0", "--program", "cat"], CASE_A, To::Read, 2, "cat does not end: stopped after 0 s");
+    let hasty: &[&str] = &["compare", "--seconds", "0", "--program", "cat"];
+    check(hasty, CASE_A, To::Read, 2, "cat does not end: stopped after 0 s");
 }
 
 #[test]

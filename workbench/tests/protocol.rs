@@ -20,7 +20,7 @@ fn answers(trace: &Trace) -> Vec<steps::Answer> {
     run.steps.iter().map(|step| step.answer).collect()
 }
 
-/// The numbers and names of a part's list, `NUMBER NAME` in front of a colon or a comma.
+/// The codes and names of a part's list, `CODE NAME` in front of a colon or a comma.
 fn listed(part: &str) -> Vec<String> {
     let (_, from) = PROTOCOL.split_once(&format!("\n## {part}\n")).expect("the document has this part");
     let section = from.split("\n## ").next().unwrap_or(from);
@@ -28,8 +28,8 @@ fn listed(part: &str) -> Vec<String> {
     let items = lines.filter_map(|line| line.split_once(' ').map(|(_, rest)| rest));
     let named = items.filter_map(|item| item.split([':', ',']).next());
     let is_name = |item: &&str| {
-        item.split_once(' ').is_some_and(|(number, name)| {
-            number.parse::<u8>().is_ok() && name.chars().all(|sign| sign.is_ascii_uppercase() || sign == '_')
+        item.split_once(' ').is_some_and(|(code, name)| {
+            code.parse::<u8>().is_ok() && name.chars().all(|sign| sign.is_ascii_uppercase() || sign == '_')
         })
     };
     named.filter(is_name).map(str::to_string).collect()
@@ -48,7 +48,7 @@ fn the_story_goes_as_told() {
 
 #[test]
 fn every_answer_is_listed() {
-    let named: Vec<String> = Answer::ALL.iter().map(|(answer, name)| format!("{} {name}", answer.number())).collect();
+    let named: Vec<String> = Answer::ALL.iter().map(|(answer, name)| format!("{} {name}", answer.code())).collect();
     assert_eq!(listed("Answers"), named);
 }
 
@@ -59,6 +59,6 @@ fn every_refusal_is_listed() {
     found.sort();
     found.dedup();
     let named = Refusal::ALL.iter().filter(|(refusal, _)| *refusal != Refusal::DigestLong);
-    assert_eq!(found, named.map(|(refusal, name)| format!("{} {name}", refusal.number())).collect::<Vec<_>>());
+    assert_eq!(found, named.map(|(refusal, name)| format!("{} {name}", refusal.code())).collect::<Vec<_>>());
     assert!(PROTOCOL.contains("28 DIGEST_LONG"));
 }

@@ -85,7 +85,7 @@ fn explain_all(name: &str, schedule: &[u8], seen: &mut [u32; 14]) {
     let mut world = accepted.world;
     for ((offset, step), answer) in accepted.steps.zip(answers) {
         let reason = why::explain(&world, &step);
-        assert_eq!(reason.answer.number(), answer, "{name}, offset {offset}, {step:?}: {}", reason.text);
+        assert_eq!(reason.answer.code(), answer, "{name}, offset {offset}, {step:?}: {}", reason.text);
         seen[usize::from(answer)] += 1;
         steps::apply(&mut world, &step, Mistake::None);
     }
@@ -143,7 +143,7 @@ fn the_incident_is_explained() {
     let schedule = fs::read(Path::new(env!("CARGO_MANIFEST_DIR")).join("../examples/incident5.bin")).unwrap();
     let run = trace::trace(&schedule).outcome.unwrap();
     let step = &run.steps[5];
-    assert_eq!((step.text.as_str(), step.answer.number()), ("propose 1 place 0", 1));
+    assert_eq!((step.text.as_str(), step.answer.code()), ("propose 1 place 0", 1));
     assert_eq!(step.why, "slot 1's digest differs from execution 0.1's, which is slot 0's");
     let changes: Vec<String> = step.changes.iter().map(Change::text).collect();
     assert_eq!(changes, ["hold place 0 of server 1: stage-one entry 0.1.1 -> free"]);

@@ -29,8 +29,8 @@ fn built(step: &Step) -> Record {
 /// A request's record, from its 30 bytes.
 fn request(body: &[u8; Request::BODY]) -> Record {
     let (head, command) = body.split_at(Request::SEALS + 1);
-    let number = u32::from_be_bytes([head[1], head[2], head[3], head[4]]);
-    Record::request(head[0], number, head[Request::SEALS], command.try_into().expect("24 bytes"))
+    let serial = u32::from_be_bytes([head[1], head[2], head[3], head[4]]);
+    Record::request(head[0], serial, head[Request::SEALS], command.try_into().expect("24 bytes"))
 }
 
 #[test]
@@ -58,15 +58,15 @@ fn runs_are_named() {
     let mut schedules: Vec<_> = (0..SCHEDULES).map(|index| generate::schedule(3, index)).collect();
     schedules.extend([random.bytes(40), vec![], vec![0x01, 3, 0, 0x0B], vec![0x01; MAX_BYTES + 1]]);
     for bytes in schedules {
-        let mut numbers = vec![0; MAX_BYTES];
-        let expected = schedule::run(&bytes, &mut numbers);
+        let mut codes = vec![0; MAX_BYTES];
+        let expected = schedule::run(&bytes, &mut codes);
         match (rehearse(&bytes), expected) {
             (Ok(ran), Ok(other)) => {
-                let named: Vec<u8> = ran.answers.iter().map(|answer| answer.number()).collect();
-                assert_eq!(named, numbers[..other.records]);
+                let named: Vec<u8> = ran.answers.iter().map(|answer| answer.code()).collect();
+                assert_eq!(named, codes[..other.records]);
             }
             (Err(Refused { refusal, offset }), Err(other)) => {
-                assert_eq!((refusal.number(), offset), (other.refusal.number(), other.offset));
+                assert_eq!((refusal.code(), offset), (other.refusal.code(), other.offset));
             }
             _ => panic!("refused by one alone: {}", hex::to_text(&bytes)),
         }
@@ -82,11 +82,11 @@ fn names_are_those_of_the_second_implementation() {
 #[test]
 fn the_header_for_c_has_the_same_names() {
     let header = include_str!("../../../bindings/staubharfe.h");
-    let each = header.split_once("STAUBHARFE_EACH_NUMBER(X)").and_then(|(_, rest)| rest.split_once("\n\n"));
-    let (numbers, _) = each.expect("the header lists each number");
-    let named: Vec<&str> = numbers.split("X(").skip(1).filter_map(|one| one.split(')').next()).collect();
-    let answers = Answer::ALL.iter().map(|(answer, name)| format!("{name}, {}", answer.number()));
-    let refusals = Refusal::ALL.iter().map(|(refusal, name)| format!("{name}, {}", refusal.number()));
+    let each = header.split_once("STAUBHARFE_EACH_CODE(X)").and_then(|(_, rest)| rest.split_once("\n\n"));
+    let (codes, _) = each.expect("the header lists each code");
+    let named: Vec<&str> = codes.split("X(").skip(1).filter_map(|one| one.split(')').next()).collect();
+    let answers = Answer::ALL.iter().map(|(answer, name)| format!("{name}, {}", answer.code()));
+    let refusals = Refusal::ALL.iter().map(|(refusal, name)| format!("{name}, {}", refusal.code()));
     assert_eq!(named, answers.chain(refusals).collect::<Vec<_>>());
 }
 

@@ -34,7 +34,7 @@ pub fn of_run(ran: &Ran, answers: &[u8]) -> String {
 
 /// The line of a refusal.
 pub fn of_refused(refused: Refused) -> String {
-    format!("refused {} {}\n", refused.refusal.number(), refused.offset)
+    format!("refused {} {}\n", refused.refusal.code(), refused.offset)
 }
 
 /// Writes all lines of an accepted schedule.

@@ -64,7 +64,7 @@ fn of_accepted(accepted: Accepted) -> String {
     let mut text = format!("0 {}\n", of_start(world.n, world.faulty));
     for (offset, step) in accepted.steps {
         let answer = steps::apply(&mut world, &step, Mistake::None);
-        line(&mut text, &format!("{offset} {} -> {} {}", of_step(&step), answer.number(), answer.name()));
+        line(&mut text, &format!("{offset} {} -> {} {}", of_step(&step), answer.code(), answer.name()));
     }
     text
 }
@@ -79,7 +79,7 @@ fn of_refused(schedule: &[u8], refused: Refused) -> String {
         }
     }
     let (refusal, offset) = (refused.refusal, refused.offset);
-    line(&mut text, &format!("{offset} refused {} {}", refusal.number(), refusal.name()));
+    line(&mut text, &format!("{offset} refused {} {}", refusal.code(), refusal.name()));
     text
 }
 

@@ -58,7 +58,7 @@ impl Answer {
         "RECALL",
     ];
 
-    /// Every answer, by number.
+    /// Every answer, by code.
     pub const ALL: [Answer; 14] = [
         Answer::Done,
         Answer::Dropped,
@@ -76,14 +76,14 @@ impl Answer {
         Answer::Recall,
     ];
 
-    /// Document 01's number.
-    pub fn number(self) -> u8 {
+    /// Document 01's number, which is called a code here: numbers are what the orderer gives.
+    pub fn code(self) -> u8 {
         self as u8
     }
 
     /// Document 01's name.
     pub fn name(self) -> &'static str {
-        Answer::NAMES[usize::from(self.number())]
+        Answer::NAMES[usize::from(self.code())]
     }
 
     /// Whether the step changed the world.

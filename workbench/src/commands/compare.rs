@@ -100,7 +100,7 @@ pub fn traces(traces: [&Trace; 2], names: [&str; 2]) -> Option<String> {
             let text = |outcome: &Result<Run, second::schedule::Refused>| match outcome {
                 Ok(run) => format!("runs, with {} steps", run.steps.len()),
                 Err(why) => {
-                    format!("is refused with {} {} at {}", why.refusal.number(), why.refusal.name(), why.offset)
+                    format!("is refused with {} {} at {}", why.refusal.code(), why.refusal.name(), why.offset)
                 }
             };
             Some(format!("{} {}\n{} {}\n", names[0], text(outcomes[0]), names[1], text(outcomes[1])))

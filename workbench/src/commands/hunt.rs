@@ -92,8 +92,8 @@ fn wish(words: &mut Words) -> Result<Wish, Failure> {
             part.ok_or_else(|| Failure::Usage(format!("--claim is one of {names}, not {name:?}")))
         }
         (None, Some(answer)) => {
-            let is_it = |known: &&Answer| known.name() == answer || known.number().to_string() == answer;
-            let found = Answer::ALL.iter().find(is_it).map(|found| Wish::Answer(found.number()));
+            let is_it = |known: &&Answer| known.name() == answer || known.code().to_string() == answer;
+            let found = Answer::ALL.iter().find(is_it).map(|found| Wish::Answer(found.code()));
             found
                 .ok_or_else(|| Failure::Usage(format!("--answer is a number from 0 to 13 or its name, not {answer:?}")))
         }
@@ -199,7 +199,7 @@ fn shown_by(hunt: &Hunt, trace: &trace::Trace) -> Option<String> {
     let run = trace.outcome.as_ref().ok()?;
     match hunt.wish {
         Wish::Answer(wished) => {
-            let place = run.steps.iter().position(|step| step.answer.number() == wished)?;
+            let place = run.steps.iter().position(|step| step.answer.code() == wished)?;
             Some(format!("step {}: {}", place + 1, run.steps[place].why))
         }
         Wish::Broken(part) => {

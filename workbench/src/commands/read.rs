@@ -44,8 +44,8 @@ pub fn to_text(schedule: &[u8]) -> (String, Option<Refused>) {
         k += 1;
         let step = places::found_text(turn.before, &turn.step).unwrap_or_else(|| readable::of_step(&turn.step));
         let why = why::of_answer(turn.before, &turn.step, turn.answer, Rules::Proved);
-        let (offset, number, name) = (turn.offset, turn.answer.number(), turn.answer.name());
-        text += &format!("{step:<40} # step {k}, offset {offset}: {number} {name}, {why}\n");
+        let (offset, code, name) = (turn.offset, turn.answer.code(), turn.answer.name());
+        text += &format!("{step:<40} # step {k}, offset {offset}: {code} {name}, {why}\n");
     });
     match walked {
         Err(refused) => (of_refused(schedule, refused), Some(refused)),
@@ -60,7 +60,7 @@ fn start_line(schedule: &[u8]) -> String {
 
 /// The lines of a refused schedule: its records with their places, then bytes.
 fn of_refused(schedule: &[u8], Refused { refusal, offset }: Refused) -> String {
-    let mut text = format!("# refused with {} {} at offset {offset}: nothing runs\n", refusal.number(), refusal.name());
+    let mut text = format!("# refused with {} {} at offset {offset}: nothing runs\n", refusal.code(), refusal.name());
     let mut read = 0;
     if schedule.first() == Some(&START) && schedule.len() >= 3 {
         text += &start_line(schedule);

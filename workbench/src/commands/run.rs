@@ -12,7 +12,7 @@ pub const HELP: &str = "\
 staubharfe run [--verdict] [--json] [--mistake NAME] [FILE]
 
 Runs a schedule, given as bytes, and prints its listing: the answer to each step, what each server has delivered, and
-how many numbers were given. A refused schedule prints `refused NUMBER OFFSET`.
+how many numbers were given. A refused schedule prints `refused CODE OFFSET`.
 
   --verdict   adds whether the world is quiet, else what stands open; what lies in a hold and is not due yet; and
               whether the correct servers agree, and who of them is behind
@@ -51,7 +51,7 @@ pub fn act(mut words: Words) -> Ended {
 
 /// The listing of a run that was followed, and its verdict if it is asked for.
 fn traced_listing(run: &Run, verdict: bool) -> String {
-    let answers: Vec<u8> = run.steps.iter().map(|step| step.answer.number()).collect();
+    let answers: Vec<u8> = run.steps.iter().map(|step| step.answer.code()).collect();
     let ran = Ran { world: run.end.clone(), records: answers.len() };
     let lines = if verdict { run.verdict.lines() } else { String::new() };
     listing::of_run(&ran, &answers) + &lines
@@ -73,7 +73,7 @@ pub fn refusal(bytes: &[u8], refused: Refused) -> Printed {
 
 /// What a refusal is called, and what may help.
 pub fn hint(bytes: &[u8], Refused { refusal, offset }: Refused) -> String {
-    let name = format!("refused: {} {} at offset {offset}", refusal.number(), refusal.name());
+    let name = format!("refused: {} {} at offset {offset}", refusal.code(), refusal.name());
     let is_text = |byte: &u8| byte.is_ascii_graphic() || byte.is_ascii_whitespace();
     if refusal == Refusal::NoStart && !bytes.is_empty() && bytes.iter().all(is_text) {
         return name + "; this is text: `staubharfe write` makes a schedule of it";

@@ -49,7 +49,7 @@ fn lines(run: &Run, asked: Option<usize>) -> Result<String, Failure> {
 /// The lines of one step.
 pub fn step_lines(k: usize, step: &Traced) -> String {
     let mut text = format!("step {k}, offset {}: {}\n", step.offset, step.text);
-    text += &format!("  {} ({}): {}\n", step.answer.name(), step.answer.number(), step.why);
+    text += &format!("  {} ({}): {}\n", step.answer.name(), step.answer.code(), step.why);
     step.changes.iter().for_each(|change| text += &format!("  changed: {}\n", change.text()));
     if step.changes.is_empty() {
         text += "  nothing changed\n";

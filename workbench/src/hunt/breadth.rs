@@ -67,7 +67,7 @@ impl Search<'_> {
         for step in tried(self.hunt, &world) {
             let (mut after, mut history) = (world.clone(), history.clone());
             let answer = steps::apply(&mut after, &step, self.hunt.mistake);
-            match self.hunt.look(answer.number(), &mut history, &after) {
+            match self.hunt.look(answer.code(), &mut history, &after) {
                 Seen::Met => self.note(at, &[step]),
                 Seen::Open if answer.changes() && self.seen.insert(fingerprint(&after)) => {
                     self.nodes.push(Some(Node { parent: at, step, depth }));
@@ -115,7 +115,7 @@ fn replay(hunt: &Hunt, nodes: &[Option<Node>], at: usize) -> (World, History) {
     let (mut world, mut history) = (World::fresh(hunt.n, hunt.faulty), History::default());
     for step in path(nodes, at) {
         let answer = steps::apply(&mut world, &step, hunt.mistake);
-        hunt.look(answer.number(), &mut history, &world);
+        hunt.look(answer.code(), &mut history, &world);
     }
     (world, history)
 }

@@ -96,7 +96,7 @@ impl Hunt {
         let (mut world, mut history) = (accepted.world, History::default());
         let mut reader = accepted.steps;
         while let Some((_, step)) = reader.next() {
-            let answer = steps::apply(&mut world, &step, self.mistake).number();
+            let answer = steps::apply(&mut world, &step, self.mistake).code();
             match self.look(answer, &mut history, &world) {
                 Seen::Met => return Some(reader.offset()),
                 Seen::Open => {}
@@ -118,7 +118,7 @@ impl Hunt {
             let step = due::next(&world)?;
             let answer = steps::apply(&mut world, &step, self.mistake);
             done.push(step);
-            match self.look(answer.number(), &mut history, &world) {
+            match self.look(answer.code(), &mut history, &world) {
                 Seen::Met => return Some(done),
                 Seen::Open if answer.changes() => {}
                 Seen::Open | Seen::Closed => return None,
@@ -139,7 +139,7 @@ impl Hunt {
         let (mut world, mut history) = (accepted.world, History::default());
         for (_, step) in accepted.steps {
             let answer = steps::apply(&mut world, &step, self.mistake);
-            self.look(answer.number(), &mut history, &world);
+            self.look(answer.code(), &mut history, &world);
         }
         let mut whole = bytes.to_vec();
         self.finish(world, history)?.iter().for_each(|step| schedule::write_step(&mut whole, step));

@@ -364,7 +364,7 @@ fn number_label(x: i32, numbered: &Numbered) -> Label {
 
 /// An answer's number and name.
 pub fn answer_text(answer: Answer) -> String {
-    format!("{} {}", answer.number(), answer.name())
+    format!("{} {}", answer.code(), answer.name())
 }
 
 /// From a step to the end of the stub of a packet under way: the stubs of a step fan out on each side.

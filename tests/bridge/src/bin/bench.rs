@@ -65,7 +65,7 @@ fn check(programs: &[Program; 2], schedules: &[Timed; 3]) -> Result<(), String> 
     }
     for Timed { bytes, records } in schedules {
         let (mut answers, mut others) = (vec![0; *records], vec![0; *records]);
-        ensure(bridge::run(bytes, &mut answers).number == bridge::DONE, "a schedule is refused")?;
+        ensure(bridge::run(bytes, &mut answers).code == bridge::DONE, "a schedule is refused")?;
         ensure(schedule::run(bytes, &mut others).is_ok(), "a schedule is refused by the second implementation")?;
         ensure(answers == others, &format!("the answers to {records} records differ"))?;
         let listing = listing::of_schedule(bytes, Mistake::None);
@@ -107,7 +107,7 @@ fn steps_of_a_run(schedule: &Timed, runs: usize) {
     let (mut answers, mut others) = (vec![0; schedule.records], vec![0; schedule.records]);
     let times = measured(
         runs,
-        || assert_eq!(bridge::run(&schedule.bytes, &mut answers).number, bridge::DONE),
+        || assert_eq!(bridge::run(&schedule.bytes, &mut answers).code, bridge::DONE),
         || assert!(schedule::run(&schedule.bytes, &mut others).is_ok()),
     );
     print_rates("steps a second in a run", schedule.records, &times);
