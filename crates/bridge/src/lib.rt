@@ -1,5 +1,5 @@
 // What C and Rust callers link (`rt staticlib bridge`): numbers, lent bytes, and worlds by value. What passes how is
-// written down on the callers' side, in `tests/bridge`.
+// written down on the callers' side, in `bindings`.
 ghost use mathlib.Core.Path.{_≡_};
 ghost use lib.ListN.{length};
 ghost use Rattle.fips180.specs.Digest.{digestAnswer};

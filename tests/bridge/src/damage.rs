@@ -1,8 +1,8 @@
 //! Damages of worlds: one for each clause of soundness, some that leave a world sound, and any value in any field.
 
+use bridge::world::{Entry, Execution, Packet, Request, Sending, World};
+use bridge::world::{DELIVERIES, EXECUTIONS, PLACES, REQUESTS, SERVERS};
 use second::random::Random;
-
-use crate::world::{Entry, Execution, Packet, Request, World, DELIVERIES, EXECUTIONS, PLACES, REQUESTS, SERVERS};
 
 /// A damage: the name of what it breaks or leaves, and the change. None where the world has nothing of the kind.
 pub type Damage = (&'static str, fn(&mut World) -> Option<()>);
@@ -16,15 +16,15 @@ pub const UNSOUND: [Damage; 20] = [
     ("every count within its size", |w| put(REQUESTS as u8 + 1, &mut w.requests.count)),
     ("all that belongs to servers at n or above is zeros", |w| {
         let absent = w.holds.get_mut(usize::from(w.roster.n))?;
-        put(UNKNOWN_ID, &mut absent.places[0].id)
+        put(UNKNOWN_ID, &mut absent.places[0].sending.id)
     }),
     ("free and unused places all zeros", |w| {
         let free = w.outgoing[0].places.iter_mut().find(|p| !p.there)?;
-        put(1, &mut free.slot)
+        put(1, &mut free.sending.slot)
     }),
     ("no stage above three", |w| put(4, &mut entry(w, |e| e.stage != 0)?.stage)),
     ("every server below n", |w| put(w.roster.n, &mut packet(w)?.1.to)),
-    ("every slot that of a stored request", |w| put(w.requests.count, &mut packet(w)?.1.slot)),
+    ("every slot that of a stored request", |w| put(w.requests.count, &mut packet(w)?.1.sending.slot)),
     ("no mask with a bit at n or above", |w| {
         let absent = absent_bit(w)?;
         let (_, execution) = execution(w, |_| true)?;
@@ -61,7 +61,7 @@ pub const UNSOUND: [Damage; 20] = [
     }),
     ("the numbers given are 1 to M, each once", |w| put(w.numbered.checked_sub(1)?, &mut w.numbered)),
     ("a held entry past its first stage names an execution in the table", |w| {
-        put(UNKNOWN_ID, &mut entry(w, |e| e.stage > 1)?.id)
+        put(UNKNOWN_ID, &mut entry(w, |e| e.stage > 1)?.sending.id)
     }),
     ("an entry has a number exactly at stage three", |w| put(0, &mut entry(w, |e| e.stage == 3)?.number)),
     ("an entry's number is from 1 to M", |w| put(beyond(w)?, &mut entry(w, |e| e.stage == 3)?.number)),
@@ -85,7 +85,8 @@ pub const SOUND: [Damage; 6] = [
     ("a faulty server with a hold", |w| {
         stored(w).first()?;
         let faulty = (0..SERVERS).find(|s| w.roster.faulty >> s & 1 == 1)?;
-        put(Entry { number: 0, id: UNKNOWN_ID, stage: 1, sender: 0, slot: 0 }, &mut w.holds[faulty].places[0])
+        let sending = Sending { id: UNKNOWN_ID, sender: 0, slot: 0 };
+        put(Entry { number: 0, sending, stage: 1 }, &mut w.holds[faulty].places[0])
     }),
     ("equal entries twice", |w| {
         let hold = w.holds.iter_mut().find(|hold| hold.places[0].stage != 0 && hold.places[PLACES - 1].stage == 0)?;
@@ -122,9 +123,7 @@ pub fn scratch(w: &mut World, random: &mut Random) {
             let item = near(random, delivered.items.len());
             match random.below(4) {
                 0 => delivered.count = value,
-                1 => delivered.items[item].id = value as u16,
-                2 => delivered.items[item].sender = value as u8,
-                _ => delivered.items[item].slot = value as u8,
+                _ => scratch_sending(&mut delivered.items[item], value, random),
             }
         }
     }
@@ -135,7 +134,7 @@ fn scratch_requests(w: &mut World, value: u32, random: &mut Random) {
     let request = &mut w.requests.slots[near(random, REQUESTS)];
     match random.below(6) {
         0 => w.requests.count = value as u8,
-        1 => request.number = value,
+        1 => request.serial = value,
         2 => request.client = value as u8,
         3 => request.seals = value as u8,
         4 => request.command[random.below(request.command.len())] = value as u8,
@@ -159,11 +158,9 @@ fn scratch_executions(w: &mut World, sender: usize, value: u32, random: &mut Ran
 /// Any value into a field of an outgoing place.
 fn scratch_packet(packet: &mut Packet, value: u32, random: &mut Random) {
     match random.below(5) {
-        0 => packet.id = value as u16,
-        1 => packet.there = !packet.there,
-        2 => packet.to = value as u8,
-        3 => packet.sender = value as u8,
-        _ => packet.slot = value as u8,
+        0 => packet.there = !packet.there,
+        1 => packet.to = value as u8,
+        _ => scratch_sending(&mut packet.sending, value, random),
     }
 }
 
@@ -171,10 +168,17 @@ fn scratch_packet(packet: &mut Packet, value: u32, random: &mut Random) {
 fn scratch_entry(entry: &mut Entry, value: u32, random: &mut Random) {
     match random.below(5) {
         0 => entry.number = value,
-        1 => entry.id = value as u16,
-        2 => entry.stage = value as u8,
-        3 => entry.sender = value as u8,
-        _ => entry.slot = value as u8,
+        1 => entry.stage = value as u8,
+        _ => scratch_sending(&mut entry.sending, value, random),
+    }
+}
+
+/// Any value into a field of a sending.
+fn scratch_sending(sending: &mut Sending, value: u32, random: &mut Random) {
+    match random.below(3) {
+        0 => sending.id = value as u16,
+        1 => sending.sender = value as u8,
+        _ => sending.slot = value as u8,
     }
 }
 

@@ -1,8 +1,8 @@
 //! A world that passed the boundary as the second implementation has it, so that both can be asked about one world.
 
-use crate::world::{Delivered, Entry, Execution, Executions, Item, Packet, Request, Requests, World};
+use bridge::world::{Delivered, Entry, Execution, Executions, Packet, Request, Requests, Sending, World};
 use second::world as other;
-use second::world::{List, Sending};
+use second::world::List;
 
 /// The same world in the second implementation's types; none where a number is larger than they hold, as in no sound
 /// world.
@@ -34,7 +34,7 @@ fn requests(requests: &Requests) -> List<other::Request, { other::Request::SLOTS
 fn request(request: Request) -> other::Request {
     let mut body = [0; other::Request::BODY];
     body[0] = request.client;
-    body[1..5].copy_from_slice(&request.number.to_be_bytes());
+    body[1..5].copy_from_slice(&request.serial.to_be_bytes());
     body[5] = request.seals;
     body[6..].copy_from_slice(&request.command);
     other::Request { body, digest: request.digest }
@@ -53,20 +53,24 @@ fn execution(execution: &Execution) -> Option<other::Execution> {
 
 /// A packet, or none.
 fn packet(packet: Packet) -> other::Packet {
-    let Packet { id, there, to, sender, slot } = packet;
-    other::Packet { used: there, to, sending: Sending { sender, id, slot } }
+    other::Packet { used: packet.there, to: packet.to, sending: sending(packet.sending) }
 }
 
 /// An entry, or none.
 fn entry(entry: &Entry) -> Option<other::Entry> {
-    let Entry { number, id, stage, sender, slot } = *entry;
-    Some(other::Entry { stage, number: number.try_into().ok()?, sending: Sending { sender, id, slot } })
+    let Entry { number, sending: named, stage } = *entry;
+    Some(other::Entry { stage, number: number.try_into().ok()?, sending: sending(named) })
 }
 
 /// What one server has delivered.
-fn delivered(delivered: &Delivered) -> List<Sending, { other::World::NUMBERS }> {
-    let item = |Item { id, sender, slot }| Sending { sender, id, slot };
-    List { count: delivered.count as usize, places: delivered.items.map(item) }
+fn delivered(delivered: &Delivered) -> List<other::Sending, { other::World::NUMBERS }> {
+    List { count: delivered.count as usize, places: delivered.items.map(sending) }
+}
+
+/// A sending.
+fn sending(sending: Sending) -> other::Sending {
+    let Sending { id, sender, slot } = sending;
+    other::Sending { sender, id, slot }
 }
 
 /// Each place translated, if all can be.

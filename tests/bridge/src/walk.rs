@@ -1,13 +1,16 @@
 //! Schedules done by single steps in place of a run, and damaged worlds on the way.
 
+use bridge::world::{Outcome, World};
+use bridge::{run, start, step, DONE};
 use second::random::Random;
 use second::schedule::{self, Refusal, Refused, Steps};
 use second::{quiet, sound};
 
 use crate::damage::{self, Damage, SOUND, UNSOUND};
 use crate::translate::to_second;
-use crate::world::{Taken, World};
-use crate::{run, start, step, BAD_WORLD, DONE};
+
+/// The code of an unsound world.
+const BAD_WORLD: u8 = Refusal::BadWorld as u8;
 
 /// About how many worlds of one schedule are looked at, sampled evenly.
 const LOOKS: usize = 24;
@@ -58,8 +61,8 @@ impl Tally {
             } else {
                 step(&world, record)
             };
-            if taken.number != answer {
-                return Err(format!("step {k}: a run answers {answer}, a single step {}", taken.number));
+            if taken.code != answer {
+                return Err(format!("step {k}: a run answers {answer}, a single step {}", taken.code));
             }
             world = taken.world;
             self.steps += 1;
@@ -70,7 +73,7 @@ impl Tally {
     }
 
     /// Each damage on a copy of a world, and the step of the world itself.
-    fn look(&mut self, world: &World, record: &[u8], random: &mut Random) -> Result<Taken, String> {
+    fn look(&mut self, world: &World, record: &[u8], random: &mut Random) -> Result<Outcome, String> {
         for (damage, times) in UNSOUND.iter().zip(&mut self.unsound) {
             *times += u64::from(unsound(world, damage, record)?);
         }
@@ -82,7 +85,7 @@ impl Tally {
             damage::scratch(&mut scratched, random);
             let taken = same_step(&scratched, record).map_err(|why| format!("a scratched world: {why}"))?;
             self.scratches += 1;
-            self.scratches_unsound += u64::from(taken.number == BAD_WORLD);
+            self.scratches_unsound += u64::from(taken.code == BAD_WORLD);
         }
         same_step(world, record)
     }
@@ -118,7 +121,7 @@ fn unsound(world: &World, (clause, change): &Damage, record: &[u8]) -> Result<bo
     let broken = to_second(&damaged).map(|world| sound::broken_clause(&world));
     ensure(broken == Some(Some(clause)), &format!("the damage to {clause:?} breaks {broken:?}"))?;
     let taken = same_step(&damaged, record).map_err(|why| format!("not so: {clause}: {why}"))?;
-    ensure(taken == Taken { number: BAD_WORLD, world: damaged }, &format!("not so: {clause}: {}", taken.number))?;
+    ensure(taken == Outcome { code: BAD_WORLD, world: damaged }, &format!("not so: {clause}: {}", taken.code))?;
     Ok(true)
 }
 
@@ -126,7 +129,7 @@ fn unsound(world: &World, (clause, change): &Damage, record: &[u8]) -> Result<bo
 fn still_sound(world: &World, (what, change): &Damage, record: &[u8]) -> Result<bool, String> {
     let Some(damaged) = changed(world, change) else { return Ok(false) };
     let taken = same_step(&damaged, record).map_err(|why| format!("{what}: {why}"))?;
-    ensure(taken.number != BAD_WORLD, &format!("{what}: 27"))?;
+    ensure(taken.code != BAD_WORLD, &format!("{what}: 27"))?;
     Ok(true)
 }
 
@@ -137,17 +140,17 @@ fn changed(world: &World, change: impl Fn(&mut World) -> Option<()>) -> Option<W
 }
 
 /// One step of a world that may be unsound, here and there: the same answer, the same world after, quiet or not.
-fn same_step(world: &World, record: &[u8]) -> Result<Taken, String> {
+fn same_step(world: &World, record: &[u8]) -> Result<Outcome, String> {
     let taken = step(world, record);
     let Some(mut other) = to_second(world) else {
-        ensure(taken == Taken { number: BAD_WORLD, world: *world }, "a number beyond every count is let pass")?;
+        ensure(taken == Outcome { code: BAD_WORLD, world: *world }, "a number beyond every count is let pass")?;
         return Ok(taken);
     };
-    let number = schedule::step(&mut other, record).map_or_else(Refusal::number, |answer| answer.number());
-    ensure(taken.number == number, &format!("the step answers {}, there {number}", taken.number))?;
+    let code = schedule::step(&mut other, record).map_or_else(Refusal::code, |answer| answer.code());
+    ensure(taken.code == code, &format!("the step answers {}, there {code}", taken.code))?;
     ensure(to_second(&taken.world).is_some_and(|world| world == other), "the world after the step differs")?;
-    if number != BAD_WORLD {
-        ensure(crate::quiet(&taken.world) == quiet::is_quiet(&other), "only one of the two says quiet")?;
+    if code != BAD_WORLD {
+        ensure(bridge::quiet(&taken.world) == quiet::is_quiet(&other), "only one of the two says quiet")?;
     }
     Ok(taken)
 }
@@ -155,7 +158,7 @@ fn same_step(world: &World, record: &[u8]) -> Result<Taken, String> {
 /// A start, here and there.
 fn same_start(n: u8, faulty: u8) -> Result<World, String> {
     let taken = start(n, faulty);
-    ensure(taken.number == DONE, &format!("the start answers {}", taken.number))?;
+    ensure(taken.code == DONE, &format!("the start answers {}", taken.code))?;
     ensure(to_second(&taken.world) == schedule::start(n, faulty).ok(), "the worlds after the start differ")?;
     Ok(taken.world)
 }
@@ -166,20 +169,20 @@ fn same_run(bytes: &[u8]) -> Result<(World, Vec<u8>), String> {
     let mut others = answers.clone();
     let ran = run(bytes, &mut answers);
     let other = schedule::run(bytes, &mut others).map_err(|refused| format!("refused there: {refused:?}"))?;
-    ensure((ran.number, ran.offset, ran.records) == (DONE, 0, other.records), "the runs end differently")?;
+    ensure((ran.code, ran.offset, ran.records) == (DONE, 0, other.records), "the runs end differently")?;
     ensure(answers == others, "the answers differ")?;
-    ensure(crate::quiet(&ran.world) == quiet::is_quiet(&other.world), "only one of the two says quiet")?;
+    ensure(bridge::quiet(&ran.world) == quiet::is_quiet(&other.world), "only one of the two says quiet")?;
     ensure(to_second(&ran.world) == Some(other.world), "the worlds at the end differ")?;
     answers.truncate(ran.records);
     Ok((ran.world, answers))
 }
 
-/// A refused schedule: the same number and offset, a world of zeros, and nothing written.
+/// A refused schedule: the same code and offset, a world of zeros, and nothing written.
 fn same_refusal(bytes: &[u8], refused: Refused) -> Result<(), String> {
     let mut answers = vec![BEFORE; bytes.len()];
     let ran = run(bytes, &mut answers);
-    let told = (refused.refusal.number(), refused.offset, 0);
-    ensure((ran.number, ran.offset, ran.records) == told, &format!("refused with {} at {}", ran.number, ran.offset))?;
+    let told = (refused.refusal.code(), refused.offset, 0);
+    ensure((ran.code, ran.offset, ran.records) == told, &format!("refused with {} at {}", ran.code, ran.offset))?;
     ensure(ran.world == start(0, 0).world, "a refused run has a world")?;
     ensure(answers.iter().all(|answer| *answer == BEFORE), "a refused run writes")
 }

@@ -1,7 +1,7 @@
-//! Compares the proved digest with the one of the second implementation: its number and its bytes.
+//! Compares the proved digest with the one of the second implementation: its code and its bytes.
 
 use bridge::world::DIGEST;
-use bridge::{sha256, DIGEST_LONG, DONE};
+use bridge::{sha256, Refusal, DONE};
 use second::hex;
 use second::random::Random;
 use second::sha256::short_digest;
@@ -16,12 +16,12 @@ const BEFORE: u8 = 0xA5;
 /// Both must say the same of a message.
 fn agrees(message: &[u8]) {
     let mut bytes = [BEFORE; DIGEST];
-    let number = sha256(message, &mut bytes);
+    let code = sha256(message, &mut bytes);
     let expected = match short_digest(message) {
         Some(digest) => (DONE, digest),
-        None => (DIGEST_LONG, [0; DIGEST]),
+        None => (Refusal::DigestLong.code(), [0; DIGEST]),
     };
-    assert_eq!((number, bytes), expected, "a message of {} bytes: {}", message.len(), hex::to_text(message));
+    assert_eq!((code, bytes), expected, "a message of {} bytes: {}", message.len(), hex::to_text(message));
 }
 
 #[test]

@@ -3,9 +3,9 @@
 use std::fs;
 use std::path::Path;
 
-use bridge::translate::to_second;
-use bridge::world::Item;
+use bridge::world::Sending;
 use bridge::{run, DONE};
+use bridge_tests::translate::to_second;
 use second::listing;
 use second::schedule::{Ran, Refusal, MAX_BYTES};
 
@@ -15,16 +15,16 @@ fn the_incident() {
     let schedule = include_bytes!("../../../examples/incident3.bin");
     let mut answers = [0; 12];
     let ran = run(schedule, &mut answers);
-    assert_eq!((ran.number, ran.records, answers[5]), (DONE, 12, 1));
-    assert_eq!(ran.world.delivered[1].items[0], Item { id: 1, sender: 0, slot: 0 });
+    assert_eq!((ran.code, ran.records, answers[5]), (DONE, 12, 1));
+    assert_eq!(ran.world.delivered[1].items[0], Sending { id: 1, sender: 0, slot: 0 });
 }
 
 /// The listing of a schedule, made from what a run hands back.
 fn listed(schedule: &[u8]) -> String {
     let mut answers = vec![0; MAX_BYTES];
     let ran = run(schedule, &mut answers);
-    if ran.number != DONE {
-        return format!("refused {} {}\n", ran.number, ran.offset);
+    if ran.code != DONE {
+        return format!("refused {} {}\n", ran.code, ran.offset);
     }
     let world = to_second(&ran.world).expect("the world of a run is sound");
     listing::of_run(&Ran { world, records: ran.records }, &answers[..ran.records])
@@ -47,6 +47,6 @@ fn a_small_buffer_is_told_and_left_alone() {
     let schedule = include_bytes!("../../../examples/incident3.bin");
     let mut answers = [0xA5; 11];
     let ran = run(schedule, &mut answers);
-    assert_eq!((ran.number, ran.offset, ran.records), (Refusal::OutSmall.number(), 0, 0));
+    assert_eq!((ran.code, ran.offset, ran.records), (Refusal::OutSmall.code(), 0, 0));
     assert_eq!(answers, [0xA5; 11]);
 }

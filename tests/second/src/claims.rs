@@ -22,7 +22,7 @@ pub enum Claim {
 }
 
 /// The list of sendings so far, followed from the fresh world on.
-#[derive(Default)]
+#[derive(Clone, Default)]
 pub struct History {
     sendings: Vec<Sending>,
 }

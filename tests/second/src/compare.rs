@@ -73,8 +73,8 @@ fn walk(schedule: &[u8], ran: &Ran, answers: &[u8]) -> Result<(), String> {
         } else {
             steps::apply(&mut world, &step, Mistake::None)
         };
-        if again.number() != *answer {
-            return Err(format!("step {k}: a run answers {answer}, a single step {}", again.number()));
+        if again.code() != *answer {
+            return Err(format!("step {k}: a run answers {answer}, a single step {}", again.code()));
         }
         observe(&world, k)?;
     }
@@ -114,7 +114,7 @@ impl Tally {
     pub fn count(&mut self, schedule: &[u8], own: &Own) {
         self.schedules += 1;
         match own {
-            Err(refused) => self.refusals[usize::from(refused.refusal.number() - Refusal::FIRST)] += 1,
+            Err(refused) => self.refusals[usize::from(refused.refusal.code() - Refusal::FIRST)] += 1,
             Ok((ran, answers)) => {
                 self.count_run(ran, answers);
                 self.notice_mistakes(schedule, &listing::of_run(ran, answers));
@@ -146,13 +146,13 @@ impl Tally {
     /// The counts, one line each.
     pub fn lines(&self) -> Vec<String> {
         let mut lines = vec![format!("schedules {}", self.schedules), format!("steps {}", self.steps)];
-        for (number, (name, times)) in Answer::NAMES.iter().zip(self.answers).enumerate() {
-            lines.push(format!("answer {number} {name} {times}"));
+        for (code, (name, times)) in Answer::NAMES.iter().zip(self.answers).enumerate() {
+            lines.push(format!("answer {code} {name} {times}"));
         }
-        for (number, (name, times)) in
-            (Refusal::FIRST..Refusal::OutSmall.number()).zip(Refusal::NAMES.iter().zip(self.refusals))
+        for (code, (name, times)) in
+            (Refusal::FIRST..Refusal::OutSmall.code()).zip(Refusal::NAMES.iter().zip(self.refusals))
         {
-            lines.push(format!("refused {number} {name} {times}"));
+            lines.push(format!("refused {code} {name} {times}"));
         }
         lines.push(format!("different starts {}", self.starts.len()));
         lines.push(format!("most numbered {}", self.most_numbered));
@@ -174,14 +174,14 @@ impl Tally {
     /// What should have occurred and did not.
     pub fn missing(&self) -> Vec<String> {
         let mut missing = Vec::new();
-        for (number, times) in self.answers.iter().enumerate() {
+        for (code, times) in self.answers.iter().enumerate() {
             if *times == 0 {
-                missing.push(format!("answer {number} never occurred"));
+                missing.push(format!("answer {code} never occurred"));
             }
         }
-        for number in Refusal::TooLong.number()..=Refusal::BadStart.number() {
-            if self.refusals[usize::from(number - Refusal::FIRST)] == 0 {
-                missing.push(format!("refusal {number} never occurred"));
+        for code in Refusal::TooLong.code()..=Refusal::BadStart.code() {
+            if self.refusals[usize::from(code - Refusal::FIRST)] == 0 {
+                missing.push(format!("refusal {code} never occurred"));
             }
         }
         for ((_, name), times) in Mistake::PLANTED.iter().zip(self.noticed) {

@@ -31,6 +31,7 @@ const COMING: usize = 4;
 pub struct Draft {
     pub world: World,
     pub random: Random,
+    mistake: Mistake,
     bytes: Vec<u8>,
     limit: usize,
     full: bool,
@@ -42,12 +43,18 @@ impl Draft {
     pub fn new(n: u8, faulty: Mask, limit: usize, random: Random) -> Draft {
         let bytes = vec![START, n, faulty];
         let world = World::fresh(n, faulty);
-        let mut draft = Draft { world, random, bytes, limit, full: false, coming: Vec::new() };
+        let mistake = Mistake::None;
+        let mut draft = Draft { world, random, mistake, bytes, limit, full: false, coming: Vec::new() };
         for _ in 0..COMING {
             let body = draft.new_body();
             draft.coming.push(body);
         }
         draft
+    }
+
+    /// The draft, led by the worlds of a planted mistake.
+    pub fn mistaken(self, mistake: Mistake) -> Draft {
+        Draft { mistake, ..self }
     }
 
     /// The schedule.
@@ -69,7 +76,7 @@ impl Draft {
             self.full = true;
             return None;
         }
-        Some(steps::apply(&mut self.world, &step, Mistake::None))
+        Some(steps::apply(&mut self.world, &step, self.mistake))
     }
 
     /// Adds so many actions.

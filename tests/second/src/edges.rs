@@ -32,7 +32,7 @@ fn answers(n: u8, faulty: u8, records: &[Vec<u8>]) -> Vec<u8> {
 
 /// The number and offset with which a schedule is refused.
 fn refused(schedule: &[u8]) -> Option<(u8, usize)> {
-    schedule::run(schedule, &mut [0; 99]).err().map(|refused| (refused.refusal.number(), refused.offset))
+    schedule::run(schedule, &mut [0; 99]).err().map(|refused| (refused.refusal.code(), refused.offset))
 }
 
 pub const CASE_A: &str = "

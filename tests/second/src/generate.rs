@@ -13,20 +13,17 @@ pub const STARTS: usize = 206;
 /// How many recipes there are; the index goes round them.
 const RECIPES: u64 = 16;
 
+/// How many of them, the first ones, give schedules that are accepted.
+pub const ACCEPTED: u64 = 12;
+
 /// The schedule of an index.
 pub fn schedule(seed: u64, index: u64) -> Vec<u8> {
     let mut random = Random::new(seed, index);
     let round = index / RECIPES;
     let (n, faulty) = nth_start((index * 67 + round) as usize % STARTS);
     match index % RECIPES {
-        0..=3 => guided(n, faulty, 150, random),
-        4..=6 => guided(n, faulty, 700, random),
-        7 => long(n, faulty, random),
         8 if round.is_multiple_of(4) => full_house(World::SERVERS as u8, 0, random),
-        8 => full_house(n, faulty, random),
-        9 => many_requests(n, faulty, random),
-        10 => full_hold(n, faulty, random),
-        11 => full_outgoing(n, faulty, random),
+        recipe @ 0..ACCEPTED => accepted(recipe, n, faulty, random),
         12 => damaged(n, faulty, &[damage::REFUSALS[round as usize % damage::REFUSALS.len()]], random),
         13 => {
             let two = [random.pick(&damage::REFUSALS), random.pick(&damage::REFUSALS)];
@@ -37,6 +34,19 @@ pub fn schedule(seed: u64, index: u64) -> Vec<u8> {
     }
 }
 
+/// The schedule of a recipe that is accepted.
+pub fn accepted(recipe: u64, n: u8, faulty: Mask, random: Random) -> Vec<u8> {
+    match recipe {
+        0..=3 => guided(Draft::new(n, faulty, MAX_BYTES, random), 150),
+        4..=6 => guided(Draft::new(n, faulty, MAX_BYTES, random), 700),
+        7 => long(n, faulty, random),
+        8 => full_house(n, faulty, random),
+        9 => many_requests(n, faulty, random),
+        10 => full_hold(n, faulty, random),
+        _ => full_outgoing(n, faulty, random),
+    }
+}
+
 /// The accepted starts in order.
 fn nth_start(place: usize) -> (u8, Mask) {
     let starts = (1..=World::SERVERS as u8).flat_map(|n| (0..=Mask::MAX).map(move |faulty| (n, faulty)));
@@ -44,8 +54,7 @@ fn nth_start(place: usize) -> (u8, Mask) {
 }
 
 /// A mixture of all actions that mostly leads on; half of these end quiet.
-fn guided(n: u8, faulty: Mask, most: usize, random: Random) -> Vec<u8> {
-    let mut draft = Draft::new(n, faulty, MAX_BYTES, random);
+pub fn guided(mut draft: Draft, most: usize) -> Vec<u8> {
     let requests = draft.random.between(0, 6);
     draft.store_requests(requests);
     let weights = weights(&mut draft);
@@ -214,7 +223,7 @@ fn end_somehow(mut draft: Draft) -> Vec<u8> {
 
 /// A short guided schedule with these damages.
 fn damaged(n: u8, faulty: Mask, refusals: &[Refusal], mut random: Random) -> Vec<u8> {
-    let mut schedule = guided(n, faulty, 40, random.clone());
+    let mut schedule = guided(Draft::new(n, faulty, MAX_BYTES, random.clone()), 40);
     for refusal in refusals {
         if schedule.len() >= 3 {
             damage::damage(&mut schedule, *refusal, &mut random);
@@ -225,7 +234,7 @@ fn damaged(n: u8, faulty: Mask, refusals: &[Refusal], mut random: Random) -> Vec
 
 /// A guided schedule with a few bytes changed.
 fn scratched(n: u8, faulty: Mask, mut random: Random) -> Vec<u8> {
-    let mut schedule = guided(n, faulty, 200, random.clone());
+    let mut schedule = guided(Draft::new(n, faulty, MAX_BYTES, random.clone()), 200);
     damage::scratch(&mut schedule, &mut random);
     schedule
 }

@@ -2,30 +2,32 @@
 
 use std::fmt::Write;
 
-/// Where and why a text is not commented hex; lines count from 1.
+/// Where and why a text is not commented hex; lines and columns count from 1.
 #[derive(Clone, PartialEq, Eq, Debug)]
 pub struct BadHex {
     pub line: usize,
+    pub column: usize,
     pub why: String,
 }
 
 /// Reads hex text: `#` starts a comment up to the line's end, white space is free.
 pub fn from_text(text: &str) -> Result<Vec<u8>, BadHex> {
     let mut bytes = Vec::new();
-    let mut open: Option<(usize, u8)> = None;
+    let mut open: Option<(usize, usize, u8)> = None;
     for (line, content) in (1..).zip(text.lines()) {
         let code = content.split('#').next().unwrap_or_default();
-        for sign in code.chars().filter(|sign| !sign.is_whitespace()) {
-            let digit = sign.to_digit(16).ok_or_else(|| bad(line, format!("{sign:?} is no hex digit")))? as u8;
+        for (column, sign) in (1..).zip(code.chars()).filter(|(_, sign)| !sign.is_whitespace()) {
+            let no_digit = || bad(line, column, format!("{sign:?} is no hex digit"));
+            let digit = sign.to_digit(16).ok_or_else(no_digit)? as u8;
             match open.take() {
-                None => open = Some((line, digit)),
-                Some((_, high)) => bytes.push(high << 4 | digit),
+                None => open = Some((line, column, digit)),
+                Some((_, _, high)) => bytes.push(high << 4 | digit),
             }
         }
     }
     match open {
         None => Ok(bytes),
-        Some((line, _)) => Err(bad(line, "the last byte has one digit only".to_string())),
+        Some((line, column, _)) => Err(bad(line, column, "the last byte has one digit only".to_string())),
     }
 }
 
@@ -38,9 +40,9 @@ pub fn to_text(bytes: &[u8]) -> String {
     text
 }
 
-/// What is wrong with a line.
-fn bad(line: usize, why: String) -> BadHex {
-    BadHex { line, why }
+/// What is wrong, and where.
+fn bad(line: usize, column: usize, why: String) -> BadHex {
+    BadHex { line, column, why }
 }
 
 #[cfg(test)]
@@ -53,8 +55,9 @@ mod tests {
     }
 
     #[test]
-    fn says_the_line_of_bad_text() {
-        assert_eq!(from_text("01\n0x").unwrap_err().line, 2);
-        assert_eq!(from_text("01\n0\n").unwrap_err().line, 2);
+    fn says_the_place_of_bad_text() {
+        let place = |text| from_text(text).map_err(|bad| (bad.line, bad.column)).unwrap_err();
+        assert_eq!(place("01\n0x"), (2, 2));
+        assert_eq!(place("01\n 0\n"), (2, 2));
     }
 }

@@ -7,18 +7,16 @@
 //! makes a differing schedule small, `report` tells of it.
 //! Timing: `sizes`.
 //! Tools: `options` (command lines), `standard` (input and output), `progress`.
-//! For people: `hex` and `readable`; `draw` (with `story`, `layout` and `svg`) shows a run as a picture.
+//! For people: `hex` and `readable`, in the words of the schedule language (`workbench`).
 
 pub mod asked;
 pub mod claims;
 pub mod compare;
 pub mod damage;
 pub mod draft;
-pub mod draw;
 pub mod generate;
 pub mod hex;
 pub mod intent;
-pub mod layout;
 pub mod listing;
 pub mod options;
 pub mod program;
@@ -34,8 +32,6 @@ pub mod sizes;
 pub mod sound;
 pub mod standard;
 pub mod steps;
-pub mod story;
-pub mod svg;
 pub mod world;
 
 #[cfg(test)]

@@ -34,7 +34,7 @@ pub fn of_run(ran: &Ran, answers: &[u8]) -> String {
 
 /// The line of a refusal.
 pub fn of_refused(refused: Refused) -> String {
-    format!("refused {} {}\n", refused.refusal.number(), refused.offset)
+    format!("refused {} {}\n", refused.refusal.code(), refused.offset)
 }
 
 /// Writes all lines of an accepted schedule.
@@ -58,7 +58,7 @@ fn write_server(text: &mut String, world: &World, server: u8) -> std::fmt::Resul
     let delivered = world.server(server).delivered.stored();
     write!(text, "server {server} {}", delivered.len())?;
     for item in delivered {
-        write!(text, " {}.{}.{}", item.sender, item.id, item.slot)?;
+        write!(text, " {item}")?;
     }
     writeln!(text)
 }

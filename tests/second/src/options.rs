@@ -17,12 +17,6 @@ impl Options {
         Options { usage, left: env::args().skip(1).collect() }
     }
 
-    /// Takes a flag that has no value.
-    pub fn flag(&mut self, name: &str) -> bool {
-        let place = self.left.iter().position(|word| word == name);
-        place.map(|place| self.left.remove(place)).is_some()
-    }
-
     /// Takes an option's value.
     pub fn value<T: FromStr>(&mut self, name: &str) -> Option<T> {
         let place = self.left.iter().position(|word| word == name)?;

@@ -1,9 +1,9 @@
 //! Runs a program under test: bytes to its standard input, what it prints back. It gets so much time and may print so
-//! much for one input, and must end with 0.
+//! much for one input.
 
-use std::fmt::Display;
+use std::ffi::{OsStr, OsString};
 use std::io::{self, Read, Write};
-use std::path::{Path, PathBuf};
+use std::path::Path;
 use std::process::{Child, ChildStdin, Command, ExitStatus, Stdio};
 use std::sync::mpsc::{self, Receiver};
 use std::thread;
@@ -23,16 +23,66 @@ const AT_ONCE: Duration = Duration::from_millis(1);
 /// How much of what a program says on standard error is told.
 const TOLD: usize = 200;
 
-/// A program under test, and the seconds that it gets for one input.
+/// The status with which shells, and emulators, say that there is no such program.
+const NOT_THERE: i32 = 127;
+
+/// A program under test with its words, and the seconds that it gets for one input.
 pub struct Program {
-    path: PathBuf,
+    path: OsString,
+    words: Vec<OsString>,
     patience: u64,
+}
+
+/// How a program ended, and what it printed.
+pub struct Ended {
+    pub status: ExitStatus,
+    pub output: Vec<u8>,
+    pub said: Vec<u8>,
+}
+
+/// Why there is nothing of a program to look at.
+#[derive(Debug)]
+pub enum Trouble {
+    NoFile,
+    NoProgram,
+    CannotStart(io::Error),
+    CannotRead(io::Error),
+    CannotWait(io::Error),
+    /// It took longer than so many seconds, and was ended.
+    NoEnd(u64),
+    /// It printed more than it may, and was ended.
+    TooMuch,
+}
+
+impl Trouble {
+    /// Whether the program ran and met a limit.
+    pub fn is_limit(&self) -> bool {
+        matches!(self, Trouble::NoEnd(_) | Trouble::TooMuch)
+    }
+
+    /// What the program does or cannot, in words; `reason` puts what the system says.
+    pub fn told(&self, reason: impl Fn(&io::Error) -> String) -> String {
+        match self {
+            Trouble::NoFile => "cannot be started: there is no such file".to_string(),
+            Trouble::NoProgram => format!("ended with {NOT_THERE} and no output: is it there?"),
+            Trouble::CannotStart(why) => format!("cannot be started: {}", reason(why)),
+            Trouble::CannotRead(why) => format!("cannot be read from: {}", reason(why)),
+            Trouble::CannotWait(why) => format!("cannot be waited for: {}", reason(why)),
+            Trouble::NoEnd(seconds) => format!("does not end: stopped after {seconds} s"),
+            Trouble::TooMuch => format!("prints too much: more than {MOST_PRINTED} bytes"),
+        }
+    }
 }
 
 impl Program {
     /// A program that gets so many seconds.
-    pub fn new(path: impl AsRef<Path>, patience: u64) -> Program {
-        Program { path: path.as_ref().into(), patience }
+    pub fn new(path: impl AsRef<OsStr>, patience: u64) -> Program {
+        Program { path: path.as_ref().into(), words: Vec::new(), patience }
+    }
+
+    /// The program with these words behind it.
+    pub fn with(self, words: &[OsString]) -> Program {
+        Program { words: words.to_vec(), ..self }
     }
 
     /// The program that a command line names.
@@ -41,13 +91,18 @@ impl Program {
         Program::new(options.word("PROGRAM"), patience)
     }
 
-    /// The words of a command line that name the program.
-    pub fn words(&self) -> Vec<String> {
-        let mut words = vec![self.path.display().to_string()];
+    /// Its name.
+    pub fn name(&self) -> String {
+        self.path.to_string_lossy().into_owned()
+    }
+
+    /// The words of a comparison's command line that name the program.
+    pub fn asking(&self) -> Vec<String> {
+        let mut asking = vec![self.name()];
         if self.patience != PATIENCE {
-            words.extend(["--patience".to_string(), self.patience.to_string()]);
+            asking.extend(["--patience".to_string(), self.patience.to_string()]);
         }
-        words
+        asking
     }
 
     /// How long it gets for one input.
@@ -55,78 +110,77 @@ impl Program {
         Duration::from_secs(self.patience)
     }
 
-    /// What the program printed for an input, or why there is nothing to compare. It does not run on afterwards.
+    /// What the program printed for an input, or why there is nothing to compare: it must end with 0.
     pub fn run(&self, input: &[u8]) -> Result<Vec<u8>, String> {
+        let Ended { status, output, said } =
+            self.call(input).map_err(|trouble| format!("{} {}", self.name(), trouble.told(io::Error::to_string)))?;
+        if status.success() {
+            return Ok(output);
+        }
+        match String::from_utf8_lossy(&said).lines().next() {
+            None => Err(format!("{} ended badly: {status}", self.name())),
+            Some(line) => Err(format!("{} said {:?} and ended badly: {status}", self.name(), cut(line))),
+        }
+    }
+
+    /// How the program ended for an input, and what it printed. It does not run on afterwards.
+    pub fn call(&self, input: &[u8]) -> Result<Ended, Trouble> {
         let begin = Instant::now();
         let mut child = self.start()?;
-        let printed = self.follow(&mut child, input, begin);
-        if printed.is_err() {
+        let ended = self.follow(&mut child, input, begin);
+        if ended.is_err() {
             // It may have ended on its own by now.
             let _ = child.kill().and_then(|()| child.wait());
         }
-        printed
+        match ended {
+            Ok(ended) if ended.status.code() == Some(NOT_THERE) && ended.output.is_empty() => Err(Trouble::NoProgram),
+            ended => ended,
+        }
     }
 
     /// Starts the program, with pipes for all that it reads and prints. That a path leads to no file is seen ahead:
     /// under an emulator it shows only as a bad end.
-    fn start(&self) -> Result<Child, String> {
-        if self.path.components().count() > 1 && !self.path.is_file() {
-            return Err(self.told("cannot be started", "there is no such file"));
+    fn start(&self) -> Result<Child, Trouble> {
+        let path = Path::new(&self.path);
+        if path.components().count() > 1 && !path.is_file() {
+            return Err(Trouble::NoFile);
         }
-        let mut command = Command::new(&self.path);
-        let piped = command.stdin(Stdio::piped()).stdout(Stdio::piped()).stderr(Stdio::piped());
-        piped.spawn().map_err(|why| self.told("cannot be started", why))
+        let mut command = Command::new(path);
+        let piped = command.args(&self.words).stdin(Stdio::piped()).stdout(Stdio::piped()).stderr(Stdio::piped());
+        piped.spawn().map_err(Trouble::CannotStart)
     }
 
     /// Hands a running program its input and follows it to its end.
-    fn follow(&self, child: &mut Child, input: &[u8], begin: Instant) -> Result<Vec<u8>, String> {
+    fn follow(&self, child: &mut Child, input: &[u8], begin: Instant) -> Result<Ended, Trouble> {
         write_all(child.stdin.take().expect("standard input is piped"), input.to_vec());
-        let printed = read_all(child.stdout.take().expect("standard output is piped"));
+        let output = read_all(child.stdout.take().expect("standard output is piped"));
         let said = read_all(child.stderr.take().expect("standard error is piped"));
-        let printed = self.received(&printed, begin)?;
+        let output = self.received(&output, begin)?;
         let said = self.received(&said, begin)?;
-        let status = self.ended(child, begin)?;
-        if status.success() {
-            return Ok(printed);
-        }
-        match String::from_utf8_lossy(&said).lines().next() {
-            None => Err(self.told("ended badly", status)),
-            Some(line) => Err(self.told(&format!("said {:?} and ended badly", cut(line)), status)),
-        }
+        Ok(Ended { status: self.status(child, begin)?, output, said })
     }
 
     /// What one of its outputs had, once it is closed.
-    fn received(&self, output: &Receiver<io::Result<Vec<u8>>>, begin: Instant) -> Result<Vec<u8>, String> {
+    fn received(&self, output: &Receiver<io::Result<Vec<u8>>>, begin: Instant) -> Result<Vec<u8>, Trouble> {
         let left = self.patience().saturating_sub(begin.elapsed());
-        let bytes = output.recv_timeout(left).map_err(|_| self.no_end())?;
-        let bytes = bytes.map_err(|why| self.told("cannot be read from", why))?;
-        if bytes.len() > MOST_PRINTED {
-            return Err(self.told("prints too much", format!("more than {MOST_PRINTED} bytes")));
+        let bytes = output.recv_timeout(left).map_err(|_| Trouble::NoEnd(self.patience))?;
+        match bytes.map_err(Trouble::CannotRead)? {
+            bytes if bytes.len() > MOST_PRINTED => Err(Trouble::TooMuch),
+            bytes => Ok(bytes),
         }
-        Ok(bytes)
     }
 
     /// The exit status of a program that has closed its outputs.
-    fn ended(&self, child: &mut Child, begin: Instant) -> Result<ExitStatus, String> {
+    fn status(&self, child: &mut Child, begin: Instant) -> Result<ExitStatus, Trouble> {
         let closed = Instant::now();
         loop {
-            match child.try_wait().map_err(|why| self.told("cannot be waited for", why))? {
+            match child.try_wait().map_err(Trouble::CannotWait)? {
                 Some(status) => return Ok(status),
-                None if begin.elapsed() >= self.patience() => return Err(self.no_end()),
+                None if begin.elapsed() >= self.patience() => return Err(Trouble::NoEnd(self.patience)),
                 None if closed.elapsed() < AT_ONCE => thread::yield_now(),
                 None => thread::sleep(AT_ONCE),
             }
         }
-    }
-
-    /// Says that time is up.
-    fn no_end(&self) -> String {
-        self.told("does not end", format!("stopped after {} s", self.patience))
-    }
-
-    /// What is wrong with the program, and why.
-    fn told(&self, what: &str, why: impl Display) -> String {
-        format!("{} {what}: {why}", self.path.display())
     }
 }
 

@@ -25,7 +25,7 @@ mod kind {
     pub const FIRST_BAD: u8 = 0x0B;
 }
 
-/// Why something is refused, with document 01's number.
+/// Why something is refused, with document 01's number as its code.
 #[derive(Clone, Copy, PartialEq, Eq, Debug)]
 #[repr(u8)]
 pub enum Refusal {
@@ -41,9 +41,9 @@ pub enum Refusal {
 }
 
 impl Refusal {
-    /// The first refusal number.
+    /// The first refusal's code.
     pub const FIRST: u8 = Refusal::TooLong as u8;
-    /// Document 01's names, from the first number on.
+    /// Document 01's names, from the first code on.
     pub const NAMES: [&str; 9] = [
         "TOO_LONG",
         "NO_START",
@@ -56,14 +56,27 @@ impl Refusal {
         "DIGEST_LONG",
     ];
 
+    /// Every refusal, from the first code on.
+    pub const ALL: [Refusal; 9] = [
+        Refusal::TooLong,
+        Refusal::NoStart,
+        Refusal::BadKind,
+        Refusal::SecondStart,
+        Refusal::Cut,
+        Refusal::BadStart,
+        Refusal::OutSmall,
+        Refusal::BadWorld,
+        Refusal::DigestLong,
+    ];
+
     /// Document 01's number.
-    pub fn number(self) -> u8 {
+    pub fn code(self) -> u8 {
         self as u8
     }
 
     /// Document 01's name.
     pub fn name(self) -> &'static str {
-        Refusal::NAMES[usize::from(self.number() - Refusal::FIRST)]
+        Refusal::NAMES[usize::from(self.code() - Refusal::FIRST)]
     }
 
     /// The refusal at an offset.
@@ -117,7 +130,7 @@ pub fn run_mistaken(schedule: &[u8], answers: &mut [u8], mistake: Mistake) -> Re
     }
     let mut world = accepted.world;
     for ((_, step), answer) in accepted.steps.zip(answers) {
-        *answer = steps::apply(&mut world, &step, mistake).number();
+        *answer = steps::apply(&mut world, &step, mistake).code();
     }
     Ok(Ran { world, records: accepted.records })
 }

@@ -58,9 +58,32 @@ impl Answer {
         "RECALL",
     ];
 
-    /// Document 01's number.
-    pub fn number(self) -> u8 {
+    /// Every answer, by code.
+    pub const ALL: [Answer; 14] = [
+        Answer::Done,
+        Answer::Dropped,
+        Answer::Wait,
+        Answer::Dismissed,
+        Answer::BadServer,
+        Answer::WrongSide,
+        Answer::NoSuch,
+        Answer::BadField,
+        Answer::SameDigest,
+        Answer::NoRoom,
+        Answer::Quota,
+        Answer::Unknown,
+        Answer::WrongDigest,
+        Answer::Recall,
+    ];
+
+    /// Document 01's number, which is called a code here: numbers are what the orderer gives.
+    pub fn code(self) -> u8 {
         self as u8
+    }
+
+    /// Document 01's name.
+    pub fn name(self) -> &'static str {
+        Answer::NAMES[usize::from(self.code())]
     }
 
     /// Whether the step changed the world.
@@ -91,6 +114,16 @@ impl Mistake {
         (Mistake::UnsealedDropped, "UnsealedDropped"),
         (Mistake::ClaimedSenderIsOrigin, "ClaimedSenderIsOrigin"),
     ];
+
+    /// The mistake of a name.
+    pub fn named(name: &str) -> Option<Mistake> {
+        Mistake::PLANTED.iter().find(|(_, planted)| *planted == name).map(|(mistake, _)| *mistake)
+    }
+
+    /// The names, for a message.
+    pub fn names() -> String {
+        Mistake::PLANTED.map(|(_, name)| name).join(", ")
+    }
 }
 
 /// How a step ends: `Ok` has changed the world, `Err` has not.

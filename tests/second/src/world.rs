@@ -1,5 +1,7 @@
 //! The world: the servers with what belongs to each, the stored requests, and the count of numbers given.
 
+use std::fmt;
+
 use crate::sha256::Digest;
 
 /// A set of servers: bit i is server i.
@@ -111,6 +113,13 @@ pub struct Sending {
     pub sender: u8,
     pub id: u16,
     pub slot: u8,
+}
+
+impl fmt::Display for Sending {
+    /// SENDER.ID.SLOT, as in the listing.
+    fn fmt(&self, text: &mut fmt::Formatter) -> fmt::Result {
+        write!(text, "{}.{}.{}", self.sender, self.id, self.slot)
+    }
 }
 
 impl Zeros for Sending {

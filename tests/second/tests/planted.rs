@@ -156,12 +156,7 @@ fn a_program_that_is_none_is_told() {
 }
 
 /// Every tool that reads a schedule or prints, and its words.
-const TOOLS: [(&str, &[&str]); 4] = [
-    (SECOND, &[]),
-    (env!("CARGO_BIN_EXE_draw"), &[]),
-    (env!("CARGO_BIN_EXE_hex"), &["--read"]),
-    (SCHEDULES, &[SECOND, "--only", "0"]),
-];
+const TOOLS: [(&str, &[&str]); 2] = [(SECOND, &[]), (SCHEDULES, &[SECOND, "--only", "0"])];
 
 /// A short schedule.
 const SCHEDULE: [u8; 7] = [1, 3, 0, 7, 0, 7, 1];
@@ -190,10 +185,8 @@ fn a_closed_pipe_gets_a_sentence() {
 
 #[test]
 fn a_folder_in_place_of_a_file_gets_a_sentence() {
-    for (tool, words) in &TOOLS[..3] {
-        let folder = fs::File::open(env!("CARGO_MANIFEST_DIR")).expect("the folder can be opened");
-        let (status, said) = ended(tool, words, folder.into(), Stdio::null());
-        assert_eq!((status, said.lines().count()), (Some(2), 1), "{tool}: {said}");
-        assert!(said.contains(": cannot read standard input: Is a directory"), "{tool}: {said}");
-    }
+    let folder = fs::File::open(env!("CARGO_MANIFEST_DIR")).expect("the folder can be opened");
+    let (status, said) = ended(SECOND, &[], folder.into(), Stdio::null());
+    assert_eq!((status, said.lines().count()), (Some(2), 1), "{said}");
+    assert!(said.contains(": cannot read standard input: Is a directory"), "{said}");
 }

@@ -3,7 +3,7 @@
 
 use std::time::Duration;
 
-use bridge::walk::Tally;
+use bridge_tests::walk::Tally;
 use second::asked::Asked;
 use second::generate;
 use second::options::Options;

@@ -89,7 +89,7 @@ impl Comparison {
             if let Err(why) = same {
                 progress.clear();
                 say(format!("{who}: {why}"));
-                let again = [self.program.words(), vec!["--only".to_string(), index.to_string()]].concat();
+                let again = [self.program.asking(), vec!["--only".to_string(), index.to_string()]].concat();
                 let bytes = hex::to_text(message);
                 fail(NAME, &format!("a difference on {} bytes: {bytes}", message.len()), &again);
             }

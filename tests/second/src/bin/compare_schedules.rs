@@ -62,7 +62,7 @@ impl Comparison {
 
     /// The words of a command line that compares with the same program.
     fn words(&self, more: Vec<String>) -> Vec<String> {
-        [self.program.words(), more].concat()
+        [self.program.asking(), more].concat()
     }
 
     /// A program that does not even take the empty schedule fails at once: there is nothing to shrink.

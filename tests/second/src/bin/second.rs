@@ -20,10 +20,9 @@ fn mistake_asked() -> Mistake {
     let name: Option<String> = options.value("--mistake");
     let mistake = match &name {
         None => Mistake::None,
-        Some(name) => match Mistake::PLANTED.iter().find(|(_, planted)| planted == name) {
-            Some((mistake, _)) => *mistake,
-            None => options.fail(&format!("--mistake is one of {}", Mistake::PLANTED.map(|(_, name)| name).join(", "))),
-        },
+        Some(name) => {
+            Mistake::named(name).unwrap_or_else(|| options.fail(&format!("--mistake is one of {}", Mistake::names())))
+        }
     };
     options.end();
     mistake

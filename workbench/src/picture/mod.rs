@@ -1,19 +1,25 @@
 //! A run as a picture: a line for each server, time from left to right, packets as arrows, the orderer below.
 
-use crate::layout::{self, answer_text, Label, Layout, TEXT};
-use crate::listing;
-use crate::readable;
-use crate::schedule::{self, Refused};
-use crate::steps::{Answer, Step};
-use crate::story::{sending_text, Call, End, Story, Trip};
-use crate::svg::{self, Point, Svg};
-use crate::world::has;
+pub mod layout;
+pub mod story;
+pub mod svg;
 
-/// The most steps for which a picture can be read.
-pub const MOST_STEPS: usize = 60;
+use second::readable;
+use second::schedule::Refused;
+use second::steps::{Answer, Step};
+use second::world::has;
+
+use crate::proved::Rules;
+use crate::trace::kind;
+use layout::{answer_text, Label, Layout, TEXT};
+use story::{Call, End, Story, Trip};
+use svg::{Point, Svg};
 
 /// The width and height of a legend item.
 const LEGEND_ITEM: Point = (196, 22);
+
+/// The most legend items side by side.
+const LEGEND_COLUMNS: i32 = 6;
 
 /// Colours that the colour-blind can tell apart; what is forged is dashed too.
 const STYLE: &str = "\
@@ -46,47 +52,41 @@ text{font:12px monospace;fill:#222;paint-order:stroke;stroke:#fff;stroke-width:3
 .hollow{fill:#fff}
 ";
 
-/// Why there is no picture.
-#[derive(Clone, Copy, PartialEq, Eq, Debug)]
-pub enum NotDrawn {
-    Refused(Refused),
-    TooMany(usize),
+/// The picture of a schedule's runs, one below the other, by each of the rules.
+pub fn of_schedule(schedule: &[u8], rules: &[Rules]) -> Result<String, Refused> {
+    let stories: Result<Vec<Story>, Refused> = rules.iter().map(|rules| Story::of_run(schedule, *rules)).collect();
+    Ok(of_stories(&stories?))
 }
 
-impl NotDrawn {
-    /// What to tell the user.
-    pub fn message(self) -> String {
-        match self {
-            NotDrawn::Refused(refused) => listing::of_refused(refused),
-            NotDrawn::TooMany(steps) => {
-                format!("a picture shows at most {MOST_STEPS} steps, the schedule has {steps}\n")
-            }
-        }
+/// The picture of stories, with one legend below them.
+pub fn of_stories(stories: &[Story]) -> String {
+    let layouts: Vec<Layout> = stories.iter().map(Layout::of_story).collect();
+    let width = layouts.iter().map(|layout| layout.width).max().unwrap_or_default();
+    let bottom: i32 = layouts.iter().map(|layout| layout.bottom).sum();
+    let mut svg = Svg::new((width, bottom + 40 + legend_height(width)), STYLE, &definitions());
+    let mut top = 0;
+    for (story, layout) in stories.iter().zip(&layouts) {
+        draw_story(&mut svg, story, layout, top);
+        top += layout.bottom;
     }
-}
-
-/// The picture of a schedule.
-pub fn of_schedule(schedule: &[u8]) -> Result<String, NotDrawn> {
-    let accepted = schedule::check(schedule).map_err(NotDrawn::Refused)?;
-    if accepted.records > MOST_STEPS {
-        return Err(NotDrawn::TooMany(accepted.records));
-    }
-    Ok(of_story(&Story::of_run(accepted)))
-}
-
-/// The picture of a story: what is drawn later lies over what is drawn before.
-pub fn of_story(story: &Story) -> String {
-    let layout = Layout::of_story(story);
-    let height = layout.bottom + 40 + legend_height(&layout);
-    let mut svg = Svg::new((layout.width, height), STYLE, &definitions());
-    draw_head(&mut svg, story, &layout);
-    draw_lines(&mut svg, story, &layout);
-    draw_calls(&mut svg, story, &layout);
-    draw_packets(&mut svg, story, &layout);
-    draw_marks(&mut svg, story, &layout);
-    draw_labels(&mut svg, &layout);
-    draw_legend(&mut svg, &layout);
+    draw_legend(&mut svg, width, bottom);
     svg.finish()
+}
+
+/// One story, so far from the top: what is drawn later lies over what is drawn before.
+fn draw_story(svg: &mut Svg, story: &Story, layout: &Layout, top: i32) {
+    if top > 0 {
+        svg.begin_lower(top);
+    }
+    draw_head(svg, story, layout);
+    draw_lines(svg, story, layout);
+    draw_calls(svg, story, layout);
+    draw_packets(svg, story, layout);
+    draw_marks(svg, story, layout);
+    draw_labels(svg, layout);
+    if top > 0 {
+        svg.end_lower();
+    }
 }
 
 /// The ends of arrows: heads and crosses, in both colours.
@@ -111,38 +111,24 @@ fn marker(id: &str, point: i32, turn: &str, shape: &str) -> String {
 fn draw_head(svg: &mut Svg, story: &Story, layout: &Layout) {
     let (n, f, t) = (story.end.n, story.end.f(), story.end.threshold());
     svg.words("title", (16, 28), &format!("n {n}, f {f}, T {t}"));
-    svg.words("grey", (156, 28), &format!("{n} servers, at most {f} may lie, {t} proposers give a number"));
+    let wrong = match story.rules {
+        Rules::Proved => String::new(),
+        Rules::Mistaken(mistake) => format!(", with the mistake {mistake:?}"),
+    };
+    svg.words("grey", (156, 28), &format!("{n} servers, at most {f} may lie, {t} proposers give a number{wrong}"));
     svg.words("grey", (16, layout.head), "step");
     for (k, moment) in story.moments.iter().enumerate() {
         let x = layout.x(k);
         svg.line("guide", (x, layout.head + 6), (x, layout.orderer_y()));
         svg.words("middle", (x, layout.head), &(k + 1).to_string());
-        draw_name(svg, layout, (x, layout.head - TEXT), name(&moment.step));
+        draw_name(svg, (x, layout.head - TEXT), kind(&moment.step));
     }
 }
 
-/// A step's name: level, one word a line, or rising where the columns are narrow.
-fn draw_name(svg: &mut Svg, layout: &Layout, (x, y): Point, name: &str) {
-    if layout.is_narrow() {
-        return svg.rising_words("name", (x, y), name);
-    }
+/// A step's name, one word a line.
+fn draw_name(svg: &mut Svg, (x, y): Point, name: &str) {
     for (above, word) in name.split(' ').rev().enumerate() {
         svg.words("middle", (x, y - above as i32 * TEXT), word);
-    }
-}
-
-/// A step's name.
-fn name(step: &Step) -> &'static str {
-    match step {
-        Step::Request { .. } => "request",
-        Step::Multicast { .. } => "multicast",
-        Step::Arrive { .. } => "arrive",
-        Step::Propose { .. } => "propose",
-        Step::Settle { .. } => "settle",
-        Step::Deliver { .. } => "deliver",
-        Step::ForgePacket { .. } => "forge packet",
-        Step::ForgeSend { .. } => "forge send",
-        Step::ForgeReceive { .. } => "forge receive",
     }
 }
 
@@ -190,15 +176,13 @@ fn draw_packets(svg: &mut Svg, story: &Story, layout: &Layout) {
     }
 }
 
-/// A stub, with the server's name at its end where there is room.
+/// A stub, with the server's name at its end.
 fn draw_stub(svg: &mut Svg, layout: &Layout, trip: &Trip, (right, down): Point) {
     let (x, y) = layout.at(trip.sent, trip.from);
     let way = svg::straight((x, y), (x + right * 3 / 4, y + down * 3 / 4));
     svg.path(packet_class(trip.end, trip.forged), &way, &packet_note(trip));
-    if layout.names_stubs() {
-        let class = if trip.forged { "lie-to" } else { "to" };
-        svg.words(class, (x + right, y + down + 4), &trip.packet.to.to_string());
-    }
+    let class = if trip.forged { "lie-to" } else { "to" };
+    svg.words(class, (x + right, y + down + 4), &trip.packet.to.to_string());
 }
 
 /// The class of an arrow or a stub.
@@ -216,7 +200,7 @@ fn packet_class(end: End, forged: bool) -> &'static str {
 /// A packet in words.
 fn packet_note(trip: &Trip) -> String {
     let forged = if trip.forged { "forged " } else { "" };
-    let (sending, from, to) = (sending_text(&trip.packet.sending), trip.from, trip.packet.to);
+    let (sending, from, to) = (trip.packet.sending, trip.from, trip.packet.to);
     let end = match trip.end {
         End::UnderWay => "never arrives".to_string(),
         End::Kept(step) => format!("arrives at step {}", step + 1),
@@ -299,22 +283,22 @@ fn legend() -> [(Sample, &'static str); 12] {
 }
 
 /// How many legend items stand side by side.
-fn legend_columns(layout: &Layout) -> i32 {
-    (layout.width - 16) / LEGEND_ITEM.0
+fn legend_columns(width: i32) -> i32 {
+    ((width - 16) / LEGEND_ITEM.0).min(LEGEND_COLUMNS)
 }
 
 /// How high the legend is.
-fn legend_height(layout: &Layout) -> i32 {
-    let columns = legend_columns(layout) as usize;
+fn legend_height(width: i32) -> i32 {
+    let columns = legend_columns(width) as usize;
     legend().len().div_ceil(columns) as i32 * LEGEND_ITEM.1
 }
 
 /// The legend, below everything.
-fn draw_legend(svg: &mut Svg, layout: &Layout) {
-    let columns = legend_columns(layout) as usize;
+fn draw_legend(svg: &mut Svg, width: i32, bottom: i32) {
+    let columns = legend_columns(width) as usize;
     for (k, (sample, words)) in legend().into_iter().enumerate() {
         let (column, row) = ((k % columns) as i32, (k / columns) as i32);
-        let (x, y) = (16 + column * LEGEND_ITEM.0, layout.bottom + 40 + row * LEGEND_ITEM.1);
+        let (x, y) = (16 + column * LEGEND_ITEM.0, bottom + 40 + row * LEGEND_ITEM.1);
         draw_sample(svg, (x, y), &sample);
         svg.words("name", (x + 46, y + 4), words);
     }
@@ -340,15 +324,15 @@ fn draw_sample(svg: &mut Svg, (x, y): Point, sample: &Sample) {
 #[cfg(test)]
 mod tests {
     use super::*;
-    use crate::edges::CASE_A;
-    use crate::hex;
-    use crate::schedule::Refusal;
+    use second::schedule::Refusal;
+    use second::steps::Mistake;
+
+    const CASE_A: &[u8] = include_bytes!("../../../examples/case_a.bin");
 
     /// The story and the picture of case A.
     fn case_a() -> (Story, String) {
-        let schedule = hex::from_text(CASE_A).expect("case A is hex text");
-        let story = Story::of_run(schedule::check(&schedule).expect("case A is accepted"));
-        (story, of_schedule(&schedule).expect("case A is drawn"))
+        let story = Story::of_run(CASE_A, Rules::Proved).expect("case A is accepted");
+        (story, of_schedule(CASE_A, &[Rules::Proved]).expect("case A is drawn"))
     }
 
     /// How many elements of a class have a note; the legend's have none.
@@ -395,14 +379,21 @@ mod tests {
 
     #[test]
     fn no_step_is_drawn_too() {
-        assert!(of_schedule(&[1, 1, 0]).is_ok());
+        assert!(of_schedule(&[1, 1, 0], &[Rules::Proved]).is_ok());
     }
 
     #[test]
-    fn refused_and_long_schedules_are_not_drawn() {
-        assert_eq!(of_schedule(&[1, 3, 0, 11]), Err(NotDrawn::Refused(Refusal::BadKind.at(3))));
-        let delivers = |steps: usize| [vec![1, 3, 0], [7, 0].repeat(steps)].concat();
-        assert!(of_schedule(&delivers(MOST_STEPS)).is_ok());
-        assert_eq!(of_schedule(&delivers(MOST_STEPS + 1)), Err(NotDrawn::TooMany(61)));
+    fn refused_schedules_are_not_drawn() {
+        assert_eq!(of_schedule(&[1, 3, 0, 11], &[Rules::Proved]), Err(Refusal::BadKind.at(3)));
+    }
+
+    #[test]
+    fn a_wrong_run_is_drawn_below_the_right_one() {
+        let rules = [Rules::Proved, Rules::Mistaken(Mistake::WrongDigestRecorded)];
+        let incident = include_bytes!("../../../examples/incident5.bin");
+        let picture = of_schedule(incident, &rules).expect("the incident is drawn");
+        assert_eq!(open_tags(&picture), Vec::<&str>::new());
+        assert_eq!(picture.matches("with the mistake WrongDigestRecorded").count(), 1);
+        assert_eq!((count(&picture, "mark delivery"), count(&picture, "mark delivery hollow")), (7, 1));
     }
 }

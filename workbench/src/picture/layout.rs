@@ -1,19 +1,17 @@
 //! Where everything of a picture is: columns, lines, arrows, and labels that do not overlap.
 
-use crate::steps::{Answer, Step};
-use crate::story::{Call, End, Moment, Numbered, Story, Trip};
-use crate::svg::{Bend, Point};
+use std::collections::{HashMap, HashSet};
+use std::ops::Range;
 
-/// The picture is at most this wide.
-const WIDEST: i32 = 1200;
-/// And at least this wide, for its legend.
+use second::steps::{Answer, Step};
+
+use super::story::{Call, End, Moment, Numbered, Story, Trip};
+use super::svg::{Bend, Point};
+
+/// The picture is at least this wide, for its legend.
 const NARROWEST: i32 = 800;
-/// A column is at most this wide.
-const WIDEST_COLUMN: i32 = 70;
-/// In narrower columns the names of the steps rise.
-const LEVEL_COLUMN: i32 = 66;
-/// In narrower columns the stubs do not name their servers.
-const NAMING_COLUMN: i32 = 40;
+/// A column: wide enough for the labels of its step, so that a picture grows with its steps.
+const COLUMN: i32 = 70;
 /// The width for the names of the lines.
 const LEFT: i32 = 84;
 /// The width right of the last column.
@@ -23,7 +21,6 @@ pub const TEXT: i32 = 14;
 
 /// Where everything is. The rows are the clients', one for each server, and the orderer's.
 pub struct Layout {
-    pub column: i32,
     pub rows: Vec<Row>,
     /// The packets' arrows; none for a packet that never arrives.
     pub arrows: Vec<Option<Bend>>,
@@ -60,7 +57,31 @@ pub struct Label {
 #[derive(Default)]
 struct Try {
     heights: Vec<i32>,
-    points: Vec<Point>,
+    points: Points,
+}
+
+/// Points, found by the column that they are in.
+#[derive(Default)]
+struct Points {
+    columns: HashMap<i32, Vec<Point>>,
+}
+
+impl Points {
+    /// Adds points.
+    fn extend(&mut self, points: impl IntoIterator<Item = Point>) {
+        points.into_iter().for_each(|point| self.columns.entry(point.0.div_euclid(COLUMN)).or_default().push(point));
+    }
+
+    /// The points from one column to another, and perhaps some beside them.
+    fn between(&self, left: i32, right: i32) -> impl Iterator<Item = &Point> {
+        let columns = left.div_euclid(COLUMN)..=right.div_euclid(COLUMN);
+        columns.filter_map(|column| self.columns.get(&column)).flatten()
+    }
+
+    /// Whether a point lies less than so many pixels from another, to the side and in height.
+    fn is_near(&self, point: Point, pixels: i32) -> bool {
+        self.between(point.0 - pixels, point.0 + pixels).any(|other| is_near(point, *other, pixels))
+    }
 }
 
 /// A side of a line.
@@ -91,11 +112,9 @@ impl Layout {
 
     /// Columns and rows with nothing in them.
     fn empty(steps: i32, n: u8) -> Layout {
-        let column = ((WIDEST - LEFT - RIGHT) / steps.max(1)).min(WIDEST_COLUMN);
-        let width = (LEFT + steps * column + RIGHT).max(NARROWEST);
+        let width = (LEFT + steps * COLUMN + RIGHT).max(NARROWEST);
         let rows = (0..n + 2).map(|_| Row::default()).collect();
-        let head = if column < LEVEL_COLUMN { 126 } else { 84 };
-        Layout { column, rows, arrows: Vec::new(), head, width, bottom: 0 }
+        Layout { rows, arrows: Vec::new(), head: 84, width, bottom: 0 }
     }
 
     /// Puts the labels of one step.
@@ -121,13 +140,15 @@ impl Layout {
         self.rows[row].lanes(side).put(label);
     }
 
-    /// Keeps room for the stubs.
+    /// Keeps room for the stubs, and for the names at their ends.
     fn reserve_stubs(&mut self, story: &Story) {
         for trip in story.packets.iter().filter(|trip| trip.end == End::UnderWay) {
             let (x, (right, down)) = (self.x(trip.sent), stub(story, trip));
             let side = if down < 0 { Side::Above } else { Side::Below };
-            let lanes = (down.abs() - 2) / TEXT + 1;
-            self.rows[1 + usize::from(trip.from)].lanes(side).reserve(lanes as usize, x + 8, x + right + 6);
+            let lanes = ((down.abs() - 2) / TEXT + 1) as usize;
+            let row = self.rows[1 + usize::from(trip.from)].lanes(side);
+            row.reserve(0..lanes, x + 8, x + right + 6);
+            row.reserve(1..lanes, x + right - 5, x + right + 6);
         }
     }
 
@@ -147,13 +168,16 @@ impl Layout {
         let arrows = self.arrows.iter().flatten().flat_map(|arrow| arrow.points());
         let calls = story.moments.iter().enumerate().filter_map(|(k, moment)| self.call(k, moment));
         let on_calls = calls.flat_map(|((x, top), (_, end))| (top..end).step_by(4).map(move |y| (x, y)));
-        Try { heights: self.rows.iter().map(|row| row.y).collect(), points: arrows.chain(on_calls).collect() }
+        let mut points = Points::default();
+        points.extend(arrows.chain(on_calls));
+        Try { heights: self.rows.iter().map(|row| row.y).collect(), points }
     }
 
     /// Draws each arrow past the marks, and away from the arrows before it.
     fn set_arrows(&mut self, story: &Story) {
-        let marks = self.marks(story);
-        let mut before: Vec<Point> = Vec::new();
+        let mut marks = Points::default();
+        marks.extend(self.marks(story));
+        let mut before = Points::default();
         for trip in &story.packets {
             let arrow = self.bends(trip).min_by_key(|bend| cost(bend, &marks, &before));
             before.extend(arrow.iter().flat_map(|arrow| arrow.points()));
@@ -186,7 +210,7 @@ impl Layout {
 
     /// The middle of a step's column.
     pub fn x(&self, step: usize) -> i32 {
-        LEFT + step as i32 * self.column + self.column / 2
+        LEFT + step as i32 * COLUMN + COLUMN / 2
     }
 
     /// Where a step is on a server's line.
@@ -208,16 +232,6 @@ impl Layout {
     pub fn ends(&self) -> (i32, i32) {
         (LEFT, self.width - RIGHT / 2)
     }
-
-    /// Whether there is room for the servers' names at the stubs.
-    pub fn names_stubs(&self) -> bool {
-        self.column >= NAMING_COLUMN
-    }
-
-    /// Whether the names of the steps rise.
-    pub fn is_narrow(&self) -> bool {
-        self.column < LEVEL_COLUMN
-    }
 }
 
 impl Try {
@@ -226,7 +240,8 @@ impl Try {
         let Some(y) = self.heights.get(row) else { return false };
         let (top, end) = side.lane();
         let columns = label.left..label.left + label.width;
-        self.points.iter().any(|point| columns.contains(&point.0) && (y + top..y + end).contains(&point.1))
+        let mut near = self.points.between(columns.start, columns.end);
+        near.any(|point| columns.contains(&point.0) && (y + top..y + end).contains(&point.1))
     }
 }
 
@@ -252,10 +267,10 @@ impl Lanes {
         self.labels.push(label);
     }
 
-    /// Takes the first lanes from a place to another.
-    fn reserve(&mut self, lanes: usize, left: i32, right: i32) {
-        self.open(lanes);
-        for lane in &mut self.taken[..lanes] {
+    /// Takes some lanes from a place to another.
+    fn reserve(&mut self, lanes: Range<usize>, left: i32, right: i32) {
+        self.open(lanes.end);
+        for lane in &mut self.taken[lanes] {
             lane.push((left, right));
         }
     }
@@ -303,11 +318,13 @@ impl Side {
 }
 
 /// What speaks against a bend: the marks that it passes closely, and how long it goes along other arrows.
-fn cost(bend: &Bend, marks: &[Point], arrows: &[Point]) -> usize {
-    let is_end = |mark: &&Point| **mark == bend.from || **mark == bend.to;
-    let passed = marks.iter().filter(|mark| !is_end(mark) && bend.points().any(|point| is_near(point, **mark, 11)));
-    let along = bend.points().filter(|point| arrows.iter().any(|other| is_near(*point, *other, 6)));
-    100 * passed.count() + along.count()
+fn cost(bend: &Bend, marks: &Points, arrows: &Points) -> usize {
+    let is_end = |mark: &Point| *mark == bend.from || *mark == bend.to;
+    let passes = |mark: &Point, point: Point| !is_end(mark) && is_near(point, *mark, 11);
+    let near = |point: Point| marks.between(point.0 - 11, point.0 + 11).filter(move |mark| passes(mark, point));
+    let passed: HashSet<&Point> = bend.points().flat_map(near).collect();
+    let along = bend.points().filter(|point| arrows.is_near(*point, 6));
+    100 * passed.len() + along.count()
 }
 
 /// Whether two points are less than so many pixels apart, to the side and in height.
@@ -347,7 +364,7 @@ fn number_label(x: i32, numbered: &Numbered) -> Label {
 
 /// An answer's number and name.
 pub fn answer_text(answer: Answer) -> String {
-    format!("{} {}", answer.number(), Answer::NAMES[usize::from(answer.number())])
+    format!("{} {}", answer.code(), answer.name())
 }
 
 /// From a step to the end of the stub of a packet under way: the stubs of a step fan out on each side.

@@ -1,21 +1,27 @@
-//! The committed pictures are those that the examples give, no text in a picture overlaps another, and `draw` ends as
-//! its users are told.
+//! The committed pictures are those that the examples give, and no text in a picture overlaps another.
 
 use std::fs;
-use std::io::Write;
 use std::path::{Path, PathBuf};
-use std::process::{Command, Output, Stdio};
 
-use second::draw::{self, NotDrawn};
 use second::generate;
 use second::schedule::Steps;
+use staubharfe::picture;
+use staubharfe::proved::Rules;
 
 /// How many generated schedules are drawn.
-const GENERATED: u64 = 128;
+const GENERATED: u64 = 16;
+
+/// How many of their steps.
+const STEPS: usize = 70;
+
+/// The picture of a schedule's run, if it is accepted.
+fn draw(schedule: &[u8]) -> Option<String> {
+    picture::of_schedule(schedule, &[Rules::Proved]).ok()
+}
 
 /// A path in the repository.
 fn in_repository(path: &str) -> PathBuf {
-    Path::new(env!("CARGO_MANIFEST_DIR")).join("../..").join(path)
+    Path::new(env!("CARGO_MANIFEST_DIR")).join("..").join(path)
 }
 
 /// The bytes of an example's schedule.
@@ -29,33 +35,32 @@ fn is_refused(name: &str) -> bool {
     listing.starts_with(b"refused ")
 }
 
-/// The pictures of all examples that are accepted and short enough, by name.
+/// The pictures of all examples that are accepted, by name.
 fn pictures() -> Vec<(String, String)> {
     let mut pictures = Vec::new();
     for item in fs::read_dir(in_repository("examples")).expect("the examples can be listed") {
         let path = item.expect("the item can be read").path();
         if path.extension().is_some_and(|extension| extension == "bin") {
             let name = path.file_stem().expect("it has a name").to_string_lossy().into_owned();
-            match draw::of_schedule(&example(&name)) {
-                Ok(picture) => pictures.push((name, picture)),
-                Err(NotDrawn::TooMany(_)) => {}
-                Err(NotDrawn::Refused(_)) => assert!(is_refused(&name), "{name} is refused"),
+            match draw(&example(&name)) {
+                Some(picture) => pictures.push((name, picture)),
+                None => assert!(is_refused(&name), "{name} is refused"),
             }
         }
     }
     pictures
 }
 
-/// The pictures of generated schedules, cut to a length that can be drawn, by name.
+/// The pictures of generated schedules, cut to some steps, by name.
 fn generated_pictures() -> Vec<(String, String)> {
     let cut = |index| {
         let schedule = generate::schedule(7, index);
         let mut steps = Steps::after_start(&schedule);
-        steps.by_ref().take(draw::MOST_STEPS).for_each(drop);
+        steps.by_ref().take(STEPS).for_each(drop);
         schedule[..steps.offset().min(schedule.len())].to_vec()
     };
-    let draw = |index| Some((format!("generated {index}"), draw::of_schedule(&cut(index)).ok()?));
-    (0..GENERATED).filter_map(draw).collect()
+    let named = |index| Some((format!("generated {index}"), draw(&cut(index))?));
+    (0..GENERATED).filter_map(named).collect()
 }
 
 /// The room of a level text: left, right, top, bottom; 12 pixels high letters are less than 7.3 wide.
@@ -88,22 +93,12 @@ fn overlap(one: Room, other: Room) -> bool {
     one.0 < other.1 && other.0 < one.1 && one.2 < other.3 && other.2 < one.3
 }
 
-/// Runs `draw` on a schedule.
-fn run_draw(words: &[&str], schedule: &[u8]) -> Output {
-    let mut command = Command::new(env!("CARGO_BIN_EXE_draw"));
-    command.args(words).stdin(Stdio::piped()).stdout(Stdio::piped()).stderr(Stdio::piped());
-    let mut child = command.spawn().expect("draw can be run");
-    // With bad options it ends without reading.
-    let _ = child.stdin.take().expect("it has an input").write_all(schedule);
-    child.wait_with_output().expect("draw ends")
-}
-
 #[test]
 fn committed_pictures_are_up_to_date() {
     for name in ["incident3", "incident5"] {
         let committed =
             fs::read_to_string(in_repository(&format!("docs/{name}.svg"))).expect("the picture can be read");
-        let drawn = draw::of_schedule(&example(name)).expect("the example is drawn");
+        let drawn = draw(&example(name)).expect("the example is drawn");
         assert!(committed == drawn, "docs/{name}.svg is not what draw makes of examples/{name}.bin: draw it again");
     }
 }
@@ -112,7 +107,6 @@ fn committed_pictures_are_up_to_date() {
 fn texts_do_not_overlap_and_stay_inside() {
     for (name, picture) in pictures().into_iter().chain(generated_pictures()) {
         let width: f64 = value(&picture, "width").expect("it has a width").parse().expect("the width is a number");
-        assert!(width <= 1200.0, "{name} is too wide");
         let texts: Vec<(Room, &str)> = picture.lines().filter_map(level_text).collect();
         for (k, (room, words)) in texts.iter().enumerate() {
             assert!(room.0 >= 0.0 && room.1 <= width, "{name}: {words:?} is cut");
@@ -124,16 +118,24 @@ fn texts_do_not_overlap_and_stay_inside() {
 }
 
 #[test]
-fn draw_ends_as_told() {
-    let drawn = run_draw(&[], &example("case_a"));
-    assert_eq!((drawn.status.code(), drawn.stderr.is_empty()), (Some(0), true));
-    assert!(drawn.stdout.starts_with(b"<svg "));
-    let refused = run_draw(&[], &[1, 3, 0, 11]);
-    assert_eq!(
-        (refused.status.code(), &refused.stderr[..], &refused.stdout[..]),
-        (Some(1), &b"refused 22 3\n"[..], &b""[..])
-    );
-    let long = run_draw(&[], &example("hold_flood"));
-    assert_eq!((long.status.code(), long.stdout.is_empty(), long.stderr.is_empty()), (Some(1), true, false));
-    assert_eq!(run_draw(&["--wide"], &example("case_a")).status.code(), Some(2));
+fn each_label_is_at_its_own_step() {
+    let picture = draw(&example("incident5")).expect("the example is drawn");
+    let steps: Vec<f64> = picture.lines().filter(|line| line.starts_with("<line class=\"guide\"")).map(x1).collect();
+    for label in picture.lines().filter(|line| value(line, "class").is_some_and(|class| class == "done")) {
+        let x: f64 = value(label, "x").expect("a label has a place").parse().expect("it is a number");
+        assert!(steps.iter().any(|step| (step - x).abs() < 2.0), "{label}");
+    }
+}
+
+/// Where a line is, from the left.
+fn x1(line: &str) -> f64 {
+    value(line, "x1").expect("a line has a place").parse().expect("it is a number")
+}
+
+#[test]
+fn a_picture_grows_with_its_steps() {
+    let delivers = |steps: usize| [vec![1, 3, 0], [7, 0].repeat(steps)].concat();
+    let width = |steps| value(&draw(&delivers(steps)).expect("it is drawn"), "width").and_then(|w| w.parse().ok());
+    let (some, more): (Option<i32>, Option<i32>) = (width(100), width(300));
+    assert_eq!(more.zip(some).map(|(more, some)| more - some), Some(200 * 70));
 }

@@ -1,8 +1,9 @@
-/* The worked example for C: runs a schedule from standard input and prints its listing, as `rehearse` does. From the
- * repository's folder:
+/* The worked example for C (and for C++, as which it compiles too): runs a schedule from standard input and prints its
+ * listing, as `rehearse` does; a refusal is named on standard error, and the status is then 1. From the repository's
+ * folder:
  *
  *     rt staticlib bridge
- *     cc -std=c11 -I tests/bridge -o target/run_c tests/bridge/run.c target/staticlib/libbridge.a
+ *     cc -std=c11 -I bindings -o target/run_c bindings/run.c target/staticlib/libbridge.a
  *     target/run_c < examples/incident3.bin */
 #include <stdio.h>
 
@@ -38,7 +39,7 @@ static void print_run(const struct staubharfe_ran *ran, const uint8_t *answers)
     printf("numbered %u\n", (unsigned)ran->world.numbered);
 }
 
-/* One byte more than a schedule may have is read, so that 20 can be told. Ends with 2 where it cannot read or write. */
+/* One byte more than a schedule may have is read, so that 20 can be told. Status 2: a read or a write failed. */
 int main(void)
 {
     static uint8_t schedule[MOST + 1], answers[MOST];
@@ -48,13 +49,15 @@ int main(void)
         return 2;
     }
     struct staubharfe_ran ran = staubharfe_run(schedule, length, answers, sizeof answers);
-    if (ran.number != 0)
-        printf("refused %u %zu\n", ran.number, ran.offset);
-    else
+    if (ran.code == STAUBHARFE_DONE) {
         print_run(&ran, answers);
+    } else {
+        printf("refused %u %zu\n", ran.code, ran.offset);
+        fprintf(stderr, "%s at byte %zu\n", staubharfe_name(ran.code), ran.offset);
+    }
     if (fflush(stdout) != 0 || ferror(stdout)) {
         perror("cannot write standard output");
         return 2;
     }
-    return 0;
+    return ran.code == STAUBHARFE_DONE ? 0 : 1;
 }

@@ -38,10 +38,14 @@ impl Svg {
         self.add(&format!("<text class=\"{class}\" x=\"{x}\" y=\"{y}\">{words}</text>"));
     }
 
-    /// Words that rise to the right from a point.
-    pub fn rising_words(&mut self, class: &str, (x, y): Point, words: &str) {
-        let turn = format!("transform=\"translate({x} {y}) rotate(-45)\"");
-        self.add(&format!("<text class=\"{class}\" {turn}>{words}</text>"));
+    /// What follows stands so much lower, up to the end of the group.
+    pub fn begin_lower(&mut self, down: i32) {
+        self.add(&format!("<g transform=\"translate(0 {down})\">"));
+    }
+
+    /// Ends a group.
+    pub fn end_lower(&mut self) {
+        self.add("</g>");
     }
 
     /// The whole text.
@@ -90,8 +94,9 @@ impl Bend {
     pub fn points(self) -> impl Iterator<Item = Point> {
         const PARTS: i32 = 64;
         let mix = |t: i32, from: i32, aside: i32, to: i32| {
-            let rest = PARTS - t;
-            (rest * rest * from + 2 * rest * t * aside + t * t * to) / (PARTS * PARTS)
+            let (t, rest) = (i64::from(t), i64::from(PARTS - t));
+            let sum = rest * rest * i64::from(from) + 2 * rest * t * i64::from(aside) + t * t * i64::from(to);
+            (sum / i64::from(PARTS * PARTS)) as i32
         };
         let Bend { from, aside, to } = self;
         (0..=PARTS).map(move |t| (mix(t, from.0, aside.0, to.0), mix(t, from.1, aside.1, to.1)))

@@ -1,11 +1,15 @@
 //! A run as a story: what each step did, and what became of each packet.
 
-use crate::schedule::Accepted;
-use crate::steps::{self, Answer, Mistake, Step};
-use crate::world::{Packet, Sending, World};
+use second::schedule::Refused;
+use second::steps::{Answer, Step};
+use second::world::{Packet, Sending, World};
 
-/// A whole run: the world it ends in, what each step did, and every packet that was sent.
+use crate::proved::{self, Rules, Turn};
+use crate::trace::packet_of;
+
+/// A whole run: who did it, the world it ends in, what each step did, and every packet that was sent.
 pub struct Story {
+    pub rules: Rules,
     pub end: World,
     pub moments: Vec<Moment>,
     pub packets: Vec<Trip>,
@@ -59,45 +63,51 @@ pub enum End {
 }
 
 impl Story {
-    /// The story of an accepted schedule.
-    pub fn of_run(accepted: Accepted) -> Story {
-        let mut story = Story { end: accepted.world, moments: Vec::new(), packets: Vec::new() };
-        for (_, step) in accepted.steps {
-            story.tell(step);
-        }
-        story
+    /// The story of a schedule's run.
+    pub fn of_run(schedule: &[u8], rules: Rules) -> Result<Story, Refused> {
+        let (mut moments, mut trips) = (Vec::new(), Trips::default());
+        let runner = proved::walk(schedule, rules, |turn| {
+            trips.follow(moments.len(), turn);
+            moments.push(moment(turn, &trips));
+        })?;
+        Ok(Story { rules, end: runner.world().clone(), moments, packets: trips.packets })
     }
+}
 
-    /// Does one step and keeps what it did.
-    fn tell(&mut self, step: Step) {
-        let before = self.end.clone();
-        let answer = steps::apply(&mut self.end, &step, Mistake::None);
-        self.follow_packets(&before, &step, answer);
-        let change = Change { before: &before, after: &self.end, step: &step, answer };
-        let forged = change.is_lie() || self.came_forged(change.held());
-        self.moments.push(Moment {
-            step,
-            answer,
-            server: change.server(),
-            about: change.about(),
-            forged,
-            call: change.call(),
-            numbered: change.numbered(),
-        });
+/// What a step did.
+fn moment(turn: &Turn, trips: &Trips) -> Moment {
+    let change = Change { before: turn.before, after: turn.after, step: &turn.step, answer: turn.answer };
+    Moment {
+        step: turn.step,
+        answer: turn.answer,
+        server: change.server(),
+        about: change.about(),
+        forged: change.is_lie() || trips.came_forged(change.held()),
+        call: change.call(),
+        numbered: change.numbered(),
     }
+}
 
-    /// Notes the packets that the step sent and the one that it brought.
-    fn follow_packets(&mut self, before: &World, step: &Step, answer: Answer) {
-        let now = self.moments.len();
-        let forged = matches!(step, Step::ForgePacket { .. });
-        for from in 0..before.n {
-            let (old, new) = (before.server(from).outgoing, self.end.server(from).outgoing);
-            for (place, (was, is)) in old.into_iter().zip(new).enumerate() {
+/// The packets so far, and those of them that are under way.
+#[derive(Default)]
+struct Trips {
+    packets: Vec<Trip>,
+    under_way: Vec<usize>,
+}
+
+impl Trips {
+    /// Notes the packets that a step sent and the one that it brought; steps count from 0.
+    fn follow(&mut self, now: usize, turn: &Turn) {
+        let forged = matches!(turn.step, Step::ForgePacket { .. });
+        for from in 0..turn.before.n {
+            let (old, new) = (&turn.before.server(from).outgoing, &turn.after.server(from).outgoing);
+            for (place, (was, is)) in old.iter().zip(new).enumerate() {
                 match (was.used, is.used) {
                     (false, true) => {
-                        self.packets.push(Trip { from, place, packet: is, forged, sent: now, end: End::UnderWay })
+                        self.under_way.push(self.packets.len());
+                        self.packets.push(Trip { from, place, packet: *is, forged, sent: now, end: End::UnderWay });
                     }
-                    (true, false) if answer == Answer::Dropped => self.end_trip(from, place, End::Dropped(now)),
+                    (true, false) if turn.answer == Answer::Dropped => self.end_trip(from, place, End::Dropped(now)),
                     (true, false) => self.end_trip(from, place, End::Kept(now)),
                     _ => {}
                 }
@@ -114,8 +124,11 @@ impl Story {
 
     /// Ends the way of the packet that was in an outgoing place.
     fn end_trip(&mut self, from: u8, place: usize, end: End) {
-        let is_it = |trip: &&mut Trip| trip.end == End::UnderWay && (trip.from, trip.place) == (from, place);
-        self.packets.iter_mut().find(is_it).expect("a packet under way has been sent").end = end;
+        let packets = &mut self.packets;
+        let is_it = |at: &usize| (packets[*at].from, packets[*at].place) == (from, place);
+        if let Some(found) = self.under_way.iter().position(is_it) {
+            packets[self.under_way.swap_remove(found)].end = end;
+        }
     }
 }
 
@@ -127,11 +140,6 @@ impl Trip {
             End::Kept(step) | End::Dropped(step) => Some(step),
         }
     }
-}
-
-/// A sending as SENDER.ID.SLOT.
-pub fn sending_text(sending: &Sending) -> String {
-    format!("{}.{}.{}", sending.sender, sending.id, sending.slot)
 }
 
 /// A step with the worlds before and after it.
@@ -147,7 +155,7 @@ impl Change<'_> {
     fn server(&self) -> Option<u8> {
         let server = match *self.step {
             Step::Request { .. } => return None,
-            Step::Arrive { origin, place } => self.arriving(origin, place).map_or(origin, |packet| packet.to),
+            Step::Arrive { origin, .. } => packet_of(self.before, self.step).map_or(origin, |packet| packet.to),
             Step::ForgePacket { from, .. } => from,
             Step::Multicast { server, .. }
             | Step::Propose { server, .. }
@@ -159,26 +167,20 @@ impl Change<'_> {
         Some(server).filter(|server| *server < self.before.n)
     }
 
-    /// The packet in an outgoing place.
-    fn arriving(&self, origin: u8, place: u8) -> Option<&Packet> {
-        let origin = self.before.present().get(usize::from(origin))?;
-        origin.outgoing.get(usize::from(place)).filter(|packet| packet.used)
-    }
-
     /// What it is about: a slot, a sending, a key, or a number with its sending.
     fn about(&self) -> String {
         let done = self.answer == Answer::Done;
         match *self.step {
             Step::Request { .. } if done => format!("slot {}", self.before.requests.count),
             Step::Multicast { server, slot } if done => {
-                sending_text(&Sending { sender: server, id: self.after.server(server).executions.count as u16, slot })
+                Sending { sender: server, id: self.after.server(server).executions.count as u16, slot }.to_string()
             }
             Step::Deliver { server } if done => self.delivery(server),
             Step::Request { .. } | Step::Multicast { .. } | Step::Deliver { .. } | Step::Arrive { .. } => String::new(),
             Step::Propose { .. } | Step::Settle { .. } => {
-                self.held().map_or(String::new(), |(_, sending)| sending_text(&sending))
+                self.held().map_or(String::new(), |(_, sending)| sending.to_string())
             }
-            Step::ForgePacket { sending, .. } => sending_text(&sending),
+            Step::ForgePacket { sending, .. } => sending.to_string(),
             Step::ForgeSend { server, id, .. } => format!("{server}.{id}"),
             Step::ForgeReceive { sender, id, .. } => format!("{sender}.{id}"),
         }
@@ -187,8 +189,7 @@ impl Change<'_> {
     /// The number and the sending of what a server has just delivered.
     fn delivery(&self, server: u8) -> String {
         let delivered = self.after.server(server).delivered.stored();
-        let last = delivered.last().expect("a delivery was done");
-        format!("{}: {}", delivered.len(), sending_text(last))
+        delivered.last().map_or(String::new(), |last| format!("{}: {last}", delivered.len()))
     }
 
     /// The server and the sending of the entry that a propose or settle takes up, if its place and stage are right.
