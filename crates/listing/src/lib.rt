@@ -49,7 +49,8 @@ fn put_run(text: &mut [u8], answers: &[u8], records: usize, w: World) -> usize
     requires { ⌜ records * recordBytesLeast ≤ scheduleMost ⌝ }
     requires { ⌜ records ≤ length (now answers) ⌝ }
     requires { ⌜ w .roster .n ≤ servers ⌝ }
-    ensures { λ r. ⌜ Wrote (now (text .entry)) 0 (runLines records (take records (now (answers .entry))) w) (now (text .exit)) r ⌝ }
+    ensures { λ r. ⌜
+        Wrote (now (text .entry)) 0 (runLines records (take records (now (answers .entry))) w) (now (text .exit)) r ⌝ }
     ensures { λ r. ⌜ r ≤ listingMost ⌝ }
 {
     let at = put_world(text, w.roster, records);
@@ -63,7 +64,8 @@ pub fn list(schedule: &[u8], answers: &mut [u8], text: &mut [u8]) -> usize
     ensures { λ r. ⌜ r ≡ length (listingOf (now (schedule .entry)) (length (now (answers .entry)))) ⌝ }
     ensures { λ r. ⌜ r ≤ listingMost ⌝ }
     ensures { λ r. ⌜ now (answers .exit) ≡ writtenOf (now (schedule .entry)) (now (answers .entry)) ⌝ }
-    ensures { λ r. ⌜ now (text .exit) ≡ sets (now (text .entry)) 0 (listingOf (now (schedule .entry)) (length (now (answers .entry)))) ⌝ }
+    ensures { λ r. ⌜ now (text .exit)
+        ≡ sets (now (text .entry)) 0 (listingOf (now (schedule .entry)) (length (now (answers .entry)))) ⌝ }
 {
     let ran = rehearsal::run(schedule, answers);
     let verdict = ran.verdict;

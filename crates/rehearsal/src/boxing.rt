@@ -138,7 +138,9 @@ pub(crate) fn act(act: Act, s: &[u8], b: usize, roster: Roster, boxes: Boxes) ->
 // The request of a record whose body starts at b.
 pub(crate) fn store(s: &[u8], b: usize, roster: Roster, requests: Requests) -> Requested
     requires { ⌜ b ≤ length (now s) ⌝ }
-    ensures { λ r. ⌜ r ≡ requestOf roster (byteAt (now (s .entry)) b) (fourAt (now (s .entry)) (b + 1)) (byteAt (now (s .entry)) (b + 5)) (bytesAt (now (s .entry)) (b + 6) commandBytes) requests ⌝ }
+    ensures { λ r. ⌜ r ≡
+        requestOf roster (byteAt (now (s .entry)) b) (fourAt (now (s .entry)) (b + 1)) (byteAt (now (s .entry)) (b + 5))
+        (bytesAt (now (s .entry)) (b + 6) commandBytes) requests ⌝ }
 {
     rules::request(
         roster,

@@ -76,7 +76,8 @@ fn place_sound(roster: Roster, numbered: u32, sender: u8, made: u8, k: usize, x:
 
 // Whether every place is sound.
 fn places_sound(roster: Roster, numbered: u32, sender: u8, t: Executions) -> bool
-    ensures { λ r. ⌜ r ≡ every (λ (k : ℕ). placeSound roster numbered sender (t .count) k (executionAt t k)) executionsMost ⌝ }
+    ensures { λ r. ⌜ r ≡
+        every (λ (k : ℕ). placeSound roster numbered sender (t .count) k (executionAt t k)) executionsMost ⌝ }
 {
     let mut k: usize = 0;
     loop {

@@ -45,7 +45,8 @@ fn put_step(text: &mut [u8], at: usize, k: usize, answer: u8) -> usize
 pub fn put_steps(text: &mut [u8], at: usize, answers: &[u8], records: usize) -> usize
     requires { ⌜ at + records * stepMost ≤ listingMost ⌝ }
     requires { ⌜ records ≤ length (now answers) ⌝ }
-    ensures { λ r. ⌜ Wrote (now (text .entry)) at (stepLines 1 (take records (now (answers .entry)))) (now (text .exit)) r ⌝ }
+    ensures { λ r. ⌜
+        Wrote (now (text .entry)) at (stepLines 1 (take records (now (answers .entry)))) (now (text .exit)) r ⌝ }
     ensures { λ r. ⌜ r ≤ at + records * stepMost ⌝ }
 {
     let mut end = at;
