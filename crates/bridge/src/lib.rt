@@ -1,5 +1,7 @@
 // What C and Rust callers link (`rt staticlib bridge`): numbers, lent bytes, and worlds by value. What passes how is
 // written down on the callers' side, in `bindings`.
+#![tactic(auto)]
+
 ghost use Rattle.std.specs.Prelude.{◌≡◌, length};
 ghost use Rattle.fips180.specs.Digest.{digest_answer};
 ghost use Rattle.protocol.specs.Quiet.{quiet};
@@ -14,7 +16,7 @@ use world::World;
 // How a run ended: 0 and the count of records after the start, or a refusal's code and offset; and the world at its
 // end, a world of zeros where it is refused.
 #[repr(C)]
-#[derive(Drop)]
+#[derive(Clone, Copy)]
 pub struct Run {
     pub offset: usize,
     pub records: usize,

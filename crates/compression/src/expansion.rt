@@ -5,7 +5,7 @@ ghost use Rattle.fips180.specs.Sha256.{word_at, block_words, next_word, schedule
 use crate::word::{lower0, lower1, wide};
 use fips180::Block;
 
-#[derive(Drop)]
+#[derive(Clone, Copy)]
 pub struct Schedule {
     pub words: [u32; Schedule::WORDS],
 }

@@ -1,5 +1,6 @@
 // What a program tells of its own start, reading and writing. The language has no exit status, so that a thing went
 // wrong is said on standard error, and standard output stays empty.
+#![tactic(auto)]
 
 // Whether the program was started with arguments, which nobody reads; then it is told.
 pub fn has_arguments(program: &[u8]) -> bool {

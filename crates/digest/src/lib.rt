@@ -1,4 +1,6 @@
 // SHA-256 of FIPS 180-4, as document 01's "The digest" asks for it: messages of 0 to 55 bytes.
+#![tactic(auto)]
+
 ghost use Rattle.std.specs.Prelude.{◌≡◌, ◌<◌, ◌/◌, ◌^◌, length};
 ghost use Rattle.fips180.specs.Digest.{digest_answer};
 ghost use Rattle.fips180.specs.Sha256.{padded, blocks, hashed};

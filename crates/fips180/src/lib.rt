@@ -1,7 +1,8 @@
 // The types of SHA-256. What it computes is in specs/, section by section of FIPS 180-4; no function of it is here.
+#![tactic(auto)]
 
 // The eight working variables, or the eight words of a hash value (§6.2.2).
-#[derive(Drop)]
+#[derive(Clone, Copy)]
 pub struct State {
     pub a: u32,
     pub b: u32,
@@ -20,7 +21,7 @@ impl State {
 }
 
 // A block of the padded message: 512 bits (§5.2.1).
-#[derive(Drop)]
+#[derive(Clone, Copy)]
 pub struct Block {
     pub bytes: [u8; Block::BYTES],
 }
@@ -30,7 +31,7 @@ impl Block {
 }
 
 // The answer of `sha256`: its code, and the digest where that is `DONE`.
-#[derive(Drop)]
+#[derive(Clone, Copy)]
 pub struct Digest {
     pub code: u8,
     pub bytes: [u8; Digest::BYTES],

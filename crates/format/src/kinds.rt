@@ -1,7 +1,7 @@
 // The kinds of record.
 
 // What a step does that touches the boxes of a few servers only.
-#[derive(Drop)]
+#[derive(Clone, Copy)]
 pub enum Act {
     Multicast,
     Arrive,
@@ -14,14 +14,14 @@ pub enum Act {
 }
 
 // What a record after the start asks for.
-#[derive(Drop)]
+#[derive(Clone, Copy)]
 pub enum Kind {
     Request,
     Act(Act),
 }
 
 // A kind number's meaning, with the length of the body.
-#[derive(Drop)]
+#[derive(Clone, Copy)]
 pub enum Form {
     Start(usize),
     Step(Kind, usize),

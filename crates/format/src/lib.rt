@@ -1,5 +1,7 @@
 // What a schedule's bytes may say: its sizes, the kinds of record, what stands at an offset, the refusals and a
 // schedule's fate. The bytes' meaning is in specs/; nothing is read here.
+#![tactic(auto)]
+
 mod kinds;
 mod reading;
 mod refusal;
@@ -12,7 +14,7 @@ pub use refusal::Refusal;
 pub use verdict::Verdict;
 
 // A schedule's sizes in bytes.
-#[derive(Drop)]
+#[derive(Clone, Copy)]
 pub struct Schedule {}
 
 impl Schedule {

@@ -3,7 +3,7 @@ use crate::kinds::Kind;
 use crate::refusal::Refusal;
 
 // What stands at an offset after the start.
-#[derive(Drop)]
+#[derive(Clone, Copy)]
 pub enum Read {
     // A whole record: where its body starts, and where the next record does.
     Record {

@@ -2,7 +2,7 @@
 use crate::answer::Answer;
 use world::{Delivered, Executions, Hold, Outgoing, Request, Requests};
 
-#[derive(Drop)]
+#[derive(Clone, Copy)]
 pub struct Boxes {
     // M, the numbers given.
     pub numbered: u32,
@@ -19,21 +19,21 @@ pub struct Boxes {
     pub delivered: Delivered,
 }
 
-#[derive(Drop)]
+#[derive(Clone, Copy)]
 pub struct Ruling {
     pub answer: Answer,
     pub boxes: Boxes,
 }
 
 // The stored requests with the answer to one more.
-#[derive(Drop)]
+#[derive(Clone, Copy)]
 pub struct Requested {
     pub answer: Answer,
     pub requests: Requests,
 }
 
 // Whose boxes a step touches.
-#[derive(Drop)]
+#[derive(Clone, Copy)]
 pub struct Touch {
     pub server: usize,
     pub holder: usize,

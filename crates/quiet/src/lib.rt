@@ -1,4 +1,6 @@
 // What a caller may ask of a world: whether it is quiet.
+#![tactic(auto)]
+
 ghost use Rattle.std.specs.Prelude.{◌≡◌};
 ghost use Rattle.protocol.specs.Quiet.{quiet};
 

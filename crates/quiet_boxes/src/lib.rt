@@ -1,4 +1,6 @@
 // The boxes of one server in a quiet world.
+#![tactic(auto)]
+
 ghost use Rattle.std.specs.Prelude.{◌≡◌, not, ◌&&◌, ◌||◌};
 ghost use Rattle.world.specs.Roster.{correct};
 ghost use Rattle.protocol.specs.Names.{own_execution};

@@ -1,4 +1,6 @@
 // What callers get: a start, a single step, a whole run.
+#![tactic(auto)]
+
 mod boxing; // the boxes that a record's step touches
 mod running;
 mod starting;

@@ -1,4 +1,6 @@
 // Prints the listing of the schedule that standard input holds.
+#![tactic(auto)]
+
 use format::Schedule;
 
 fn main() {

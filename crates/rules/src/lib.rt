@@ -1,4 +1,6 @@
 // The rules of document 01's "Steps, with tests in order": what each kind of step does to the boxes that it touches.
+#![tactic(auto)]
+
 mod boxes;
 mod holding; // an entry freed or raised
 mod orderer; // an execution made, a call recorded

@@ -1,4 +1,6 @@
 // A schedule's bytes: its records, their fields, and the tests that a whole schedule has to pass.
+#![tactic(auto)]
+
 mod fields;
 mod kinds;
 mod reading;

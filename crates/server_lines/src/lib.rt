@@ -1,5 +1,7 @@
 // The lines of the servers, each written at a place of the lent buffer. Each function answers the place after what it
 // wrote.
+#![tactic(auto)]
+
 ghost use Rattle.std.specs.Prelude.{◌≡◌, ◌+◌, ◌≤◌, min, take};
 ghost use Rattle.world.specs.Sizes.{servers, delivered_most};
 ghost use Rattle.writing.specs.Writing.{Wrote};

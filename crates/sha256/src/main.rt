@@ -1,6 +1,8 @@
 // Prints the SHA-256 of standard input, of at most 55 bytes; more is refused, by code and place.
+#![tactic(auto)]
+
 use fips180::Digest;
-use hex::Line;
+use hex_text::Line;
 
 fn main() {
     if console::has_arguments(b"sha256") {

@@ -1,4 +1,6 @@
 // The boxes of one server in a sound world: its packets under way, the entries that it holds, what it has delivered.
+#![tactic(auto)]
+
 mod entries;
 mod items;
 mod packets;

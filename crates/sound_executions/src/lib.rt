@@ -1,4 +1,6 @@
 // The executions of one sender in a sound world.
+#![tactic(auto)]
+
 ghost use Rattle.std.specs.Prelude.{◌≡◌, ℕ, ◌<◌, ◌≤◌};
 ghost use Rattle.search.specs.Search.{every};
 ghost use Rattle.world.specs.Executions.{execution_at};

@@ -1,4 +1,6 @@
 // What every test of a sound or quiet world asks: what packets, entries and items name, and which places are all zeros.
+#![tactic(auto)]
+
 mod naming;
 mod zeros;
 

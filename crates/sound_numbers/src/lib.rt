@@ -1,4 +1,6 @@
 // The numbers given in a sound world: 1 to M, each once.
+#![tactic(auto)]
+
 ghost use Rattle.std.specs.Prelude.{◌≡◌, ℕ, ◌<◌, eqb, get_or};
 ghost use Rattle.search.specs.Search.{count};
 ghost use Rattle.world.specs.Sizes.{delivered_most};

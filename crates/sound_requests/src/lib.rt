@@ -1,4 +1,6 @@
 // The stored requests of a sound world.
+#![tactic(auto)]
+
 ghost use Rattle.std.specs.Prelude.{◌≡◌, ℕ, ◌<◌, ◌≤◌};
 ghost use Rattle.fips180.specs.Sha256.{digest_of};
 ghost use Rattle.search.specs.Search.{every};

@@ -1,4 +1,6 @@
 // What a step asks of its world: whether it is sound.
+#![tactic(auto)]
+
 ghost use Rattle.std.specs.Prelude.{◌≡◌};
 ghost use Rattle.protocol.specs.Sound.{sound};
 

@@ -1,5 +1,7 @@
 // The first line and those of the steps, each written at a place of the lent buffer. Each function answers the place
 // after its lines.
+#![tactic(auto)]
+
 ghost use Rattle.std.specs.Prelude.{◌+◌, ◌*◌, ◌^◌, ◌≤◌, ◌<◌, length, take};
 ghost use Rattle.writing.specs.Writing.{Wrote};
 ghost use Rattle.protocol.specs.Longest.{world_most, step_most, listing_most};

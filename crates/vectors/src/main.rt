@@ -1,10 +1,12 @@
 // The published short messages of SHA-256 (NIST's SHA256ShortMsg, 0 to 55 bytes): each line of standard input is a
 // message in hex, and a line of its digest is written for each. The file stdout beside this folder has the published
 // digests.
+#![tactic(auto)]
+
 ghost use Rattle.std.specs.Prelude.{◌<◌};
 
 use fips180::Digest;
-use hex::Line;
+use hex_text::Line;
 
 // The value of a lower-case hex digit; of any other character, some number below 16.
 fn value(c: u8) -> u8

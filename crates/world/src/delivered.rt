@@ -7,7 +7,7 @@ use crate::roster::Roster;
 use crate::sending::Sending;
 
 #[repr(C)]
-#[derive(Drop)]
+#[derive(Clone, Copy)]
 pub struct Delivered {
     pub items: [Sending; Delivered::MOST],
     pub count: u32,

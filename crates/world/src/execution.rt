@@ -8,7 +8,7 @@ use fips180::Digest;
 use search::Found;
 
 #[repr(C)]
-#[derive(Drop)]
+#[derive(Clone, Copy)]
 pub struct Execution {
     // 0 until it is numbered.
     pub number: u32,
@@ -20,14 +20,14 @@ pub struct Execution {
 }
 
 #[repr(C)]
-#[derive(Drop)]
+#[derive(Clone, Copy)]
 pub struct Executions {
     pub table: [Execution; Executions::MOST],
     pub count: u8,
 }
 
 // An execution and the numbers given, after the orderer has looked whether it gets the next one.
-#[derive(Drop)]
+#[derive(Clone, Copy)]
 pub struct Ordered {
     pub execution: Execution,
     pub numbered: u32,

@@ -8,7 +8,7 @@ use crate::sending::Sending;
 use search::Found;
 
 #[repr(C)]
-#[derive(Drop)]
+#[derive(Clone, Copy)]
 pub struct Entry {
     // 0 until stage three.
     pub number: u32,
@@ -18,7 +18,7 @@ pub struct Entry {
 }
 
 #[repr(C)]
-#[derive(Drop)]
+#[derive(Clone, Copy)]
 pub struct Hold {
     pub places: [Entry; Hold::PLACES],
 }

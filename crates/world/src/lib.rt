@@ -2,6 +2,8 @@
 // held entries and what each server has delivered. Everything is by value, in boxes that a step takes out and puts
 // back. Callers from outside get worlds too (crate `bridge`), so their structs are `repr(C)`: laid out as C lays out a
 // struct of these fields.
+#![tactic(auto)]
+
 ghost use Rattle.std.specs.Prelude.{◌≡◌};
 ghost use Rattle.world.specs.Fresh.{fresh_world};
 
@@ -24,7 +26,7 @@ pub use roster::Roster;
 pub use sending::Sending;
 
 #[repr(C)]
-#[derive(Drop)]
+#[derive(Clone, Copy)]
 pub struct World {
     pub roster: Roster,
     // M, the numbers given.

@@ -9,7 +9,7 @@ use crate::sending::Sending;
 use search::Found;
 
 #[repr(C)]
-#[derive(Drop)]
+#[derive(Clone, Copy)]
 pub struct Packet {
     pub sending: Sending,
     // Whether there is a packet at the place.
@@ -18,7 +18,7 @@ pub struct Packet {
 }
 
 #[repr(C)]
-#[derive(Drop)]
+#[derive(Clone, Copy)]
 pub struct Outgoing {
     pub places: [Packet; Outgoing::PLACES],
 }

@@ -5,7 +5,7 @@ ghost use Rattle.world.specs.Requests.{unused_request, fresh_requests, request_b
 use fips180::Digest;
 
 #[repr(C)]
-#[derive(Drop)]
+#[derive(Clone, Copy)]
 pub struct Request {
     // The client's own number for it.
     pub serial: u32,
@@ -17,7 +17,7 @@ pub struct Request {
 }
 
 #[repr(C)]
-#[derive(Drop)]
+#[derive(Clone, Copy)]
 pub struct Requests {
     pub slots: [Request; Requests::MOST],
     pub count: u8,

@@ -5,7 +5,7 @@ ghost use Rattle.world.specs.Roster.{member, faulty, strays, faults, threshold, 
 use crate::mask::has;
 
 #[repr(C)]
-#[derive(Drop)]
+#[derive(Clone, Copy)]
 pub struct Roster {
     pub n: u8,
     pub faulty: u8,

@@ -1,4 +1,6 @@
 // Bytes, words and numbers, written into a lent buffer as far as they fit. Each answers the place after what it wrote.
+#![tactic(auto)]
+
 ghost use Rattle.std.specs.Prelude.{[], ◌∷◌, ◌+◌, ◌≤◌, ◌<◌, length};
 ghost use Rattle.writing.specs.Writing.{Wrote, far};
 ghost use Rattle.protocol.specs.Listing.{digits_most, decimal};

@@ -3,10 +3,10 @@ use mathlib.Core.Path.{◌≡◌, refl, ◌∙◌}
 use Prim.Native.Nat.{◌+◌, ◌-◌, ◌*◌, ◌≤◌}
 use native.Mathlib.Omega.{arith}
 use lib.ListN.{length, get_or, take, length-set}
-use Rattle.hex.specs.Hex.{hex_digits}
-use Rattle.hex.proofs.Digits.{more_digits, with_last, kept_behind}
-use Rattle.hex.proofs.Line.of.Statement.{statement}
-use Rattle.hex.proofs.Line.of.Tie as tie
+use Rattle.hex_text.specs.Hex.{hex_digits}
+use Rattle.hex_text.proofs.Digits.{more_digits, with_last, kept_behind}
+use Rattle.hex_text.proofs.Line.of.Statement.{statement}
+use Rattle.hex_text.proofs.Line.of.Tie as tie
 
 abbrev invariant-loop : tie.invariant-loop
 invariant-loop bytes text₀ i₀ text i = (i ≤ 32) × ((length text ≡ 65) × ((take (i * 2) text ≡ hex_digits bytes i) × (get_or text 64 0 ≡ 10)))

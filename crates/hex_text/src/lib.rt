@@ -1,11 +1,13 @@
 // Digests as text.
+#![tactic(auto)]
+
 ghost use Rattle.std.specs.Prelude.{◌≡◌};
-ghost use Rattle.hex.specs.Hex.{digit, hex_line};
+ghost use Rattle.hex_text.specs.Hex.{digit, hex_line};
 
 use fips180::Digest;
 
 // A line of text: two digits a byte, and the newline.
-#[derive(Drop)]
+#[derive(Clone, Copy)]
 pub struct Line {
     pub text: [u8; Line::BYTES],
 }

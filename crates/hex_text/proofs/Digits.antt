@@ -7,7 +7,7 @@ use native.Mathlib.Omega.{arith}
 use lib.ListN.{length, get_or, take, set, length-set}
 use lib.Seq.{take_all, take-suc, get_or-set_other}
 use Rattle.search.proofs.Filling.{stored}
-use Rattle.hex.specs.Hex.{digit, hex_digits}
+use Rattle.hex_text.specs.Hex.{digit, hex_digits}
 
 -- two more digits
 pub more_digits : (text bs : List ℕ) (i x y : ℕ) → i * 2 + 1 < length text → take (i * 2) text ≡ hex_digits bs i → x ≡ digit (get_or bs i 0 / 16) → y ≡ digit (get_or bs i 0 % 16)

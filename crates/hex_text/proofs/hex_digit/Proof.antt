@@ -1,7 +1,7 @@
 use borrow.Author.Tests.{lt-ltb, le-ltb}
 use borrow.Author.Rules.{rules}
-use Rattle.hex.proofs.hex_digit.Statement.{statement}
-use Rattle.hex.proofs.hex_digit.Tie as tie
+use Rattle.hex_text.proofs.hex_digit.Statement.{statement}
+use Rattle.hex_text.proofs.hex_digit.Tie as tie
 
 add-result : tie.Need-overflow-add-result
 add-result c = search rules
