@@ -23,13 +23,13 @@ pub mapped : {X d : Type 0} (to : X → d) (xs : List X) (n : ℕ) → length (m
 mapped to xs n e = sym (length-map xs to) ∙ e
 
 pub hold_places_lem : (h : Hold) (vs : Valss (shape hold-of.the_type).fields) → shadow (owns (shape hold-of.the_type).fields ((hold-of.the_type).to h) vs) → length h.places ≡ hold_places
-hold_places_lem h vs g = mapped (entry_of.the_field).into h.places hold_places g.0.1.0.1
+hold_places_lem h vs g = g.0.1.0.1
 
 pub outgoing_places_lem : (o : Outgoing) (vs : Valss (shape outgoing_of.the_type).fields) → shadow (owns (shape outgoing_of.the_type).fields ((outgoing_of.the_type).to o) vs) → length o.places ≡ outgoing_places
-outgoing_places_lem o vs g = mapped (packet-of.the_field).into o.places outgoing_places g.0.1.0.1
+outgoing_places_lem o vs g = g.0.1.0.1
 
 pub delivered_items : (d : Delivered) (vs : Valss (shape delivered-of.the_type).fields) → shadow (owns (shape delivered-of.the_type).fields ((delivered-of.the_type).to d) vs) → length d.items ≡ delivered_most
-delivered_items d vs g = mapped (sending_of_lem.the_field).into d.items delivered_most g.0.1.0.1
+delivered_items d vs g = g.0.1.0.1
 
 pub request_command : (r : Request) (vs : Valss (shape request-of.the_type).fields) → shadow (owns (shape request-of.the_type).fields ((request-of.the_type).to r) vs) → length r.command ≡ command_bytes
-request_command r vs g = length_unmapped ℕ r.command command_bytes g.1.1.1.0.1.0.1
+request_command r vs g = g.1.1.1.0.1.0.1

@@ -1,0 +1,5 @@
+use Rattle.std.proofs.Common.{rules}
+use Rattle.world.proofs.execution.Execution.open.Goals as goal
+
+pub returns : goal.returns
+returns c = cc

@@ -1,0 +1,10 @@
+use Rattle.std.proofs.Common.{ℕ, ◌-◌, eqb, sym, ap, ◌∙◌, arith, rules, eq-eqb, ne_eqb}
+use Rattle.search.proofs.Laws.{Passed, passed_none, passed_more, passed_here, passed_all}
+use Rattle.world.specs.Hold.{entry_at, is_ready, is_entry}
+use Rattle.world.proofs.hold.Hold.free.Given as goal
+
+abbrev pub invariant-loop-k : goal.invariant-loop-k
+invariant-loop-k l = Passed (λ (i : ℕ). eqb (entry_at l.self i).stage 0) 64 l.k
+
+abbrev pub decreases-loop-k : goal.decreases-loop-k
+decreases-loop-k l = 64 - l.k

@@ -1,0 +1,7 @@
+use Rattle.world.specs.Hold.{fresh_hold}
+use Rattle.std.proofs.Common.{rules}
+use Rattle.world.proofs.hold.Hold.fresh.Goals as goal
+
+pub returns : goal.returns
+unfolding fresh_hold
+returns c = cc

@@ -1,0 +1,11 @@
+use Rattle.search.specs.Search.{is_found}
+use Rattle.std.proofs.Common.{ℕ, ◌-◌, eqb, sym, ap, ◌∙◌, arith, rules}
+use Rattle.search.proofs.Laws.{Passed, passed_none, passed_more, passed_here, passed_all}
+use Rattle.world.specs.Hold.{entry_at, is_ready, is_entry}
+use Rattle.world.proofs.hold.Hold.holds.Given as goal
+
+abbrev pub invariant-loop-k : goal.invariant-loop-k
+invariant-loop-k l = Passed (λ (i : ℕ). is_entry (entry_at l.self i) l.sending) 64 l.k
+
+abbrev pub decreases-loop-k : goal.decreases-loop-k
+decreases-loop-k l = 64 - l.k

@@ -1,0 +1,7 @@
+use Rattle.world.specs.Outgoing.{fresh_outgoing}
+use Rattle.std.proofs.Common.{rules}
+use Rattle.world.proofs.outgoing.Outgoing.fresh.Goals as goal
+
+pub returns : goal.returns
+unfolding fresh_outgoing
+returns c = cc

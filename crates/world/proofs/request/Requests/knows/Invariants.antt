@@ -1,0 +1,11 @@
+use Rattle.std.proofs.Common.{ℕ, ◌-◌, Bool, ◌&&◌, ltb, sym, ap, ◌∙◌, arith, rules}
+use Rattle.search.specs.Search.{is_found}
+use Rattle.search.proofs.Laws.{Passed, passed_none, passed_more, passed_here, passed_all}
+use Rattle.world.specs.Requests.{request_at, same_digest, known_digest}
+use Rattle.world.proofs.request.Requests.knows.Given as goal
+
+abbrev pub invariant-loop-k : goal.invariant-loop-k
+invariant-loop-k l = Passed (λ (i : ℕ). ltb i l.self.count && same_digest (request_at l.self i).digest l.digest) 128 l.k
+
+abbrev pub decreases-loop-k : goal.decreases-loop-k
+decreases-loop-k l = 128 - l.k
