@@ -24,36 +24,36 @@ use Rattle.world.proofs.Seats.{seat_own}
 use Rattle.kept.specs.Kept.{Shaped}
 
 -- the relation of one element, from that of each
-each_at : {X d : Type 0} (to : X → d) (f : d → List Val → Fml) (xs : List X) (us : List Val) (i : ℕ) (x₀ : X) → i < length xs
-    → shadow (each d f (map to xs) us) → (u : Val) × shadow (f (to (get_or xs i x₀)) (u ∷ []))
-each_at to f [] us i x₀ p s = absurd (omega arith)
-each_at to f (x ∷ xs) [] i x₀ p s = absurd s
-each_at to f (x ∷ xs) (u ∷ us) zero x₀ p s = (u, s.0)
-each_at to f (x ∷ xs) (u ∷ us) (suc i) x₀ p s = each_at to f xs us i x₀ (omega arith) s.1
+each_at : {X : Type 0} (f : X → List Val → Fml) (xs : List X) (us : List Val) (i : ℕ) (x₀ : X) → i < length xs
+    → shadow (each X f xs us) → (u : Val) × shadow (f (get_or xs i x₀) (u ∷ []))
+each_at f [] us i x₀ p s = absurd (omega arith)
+each_at f (x ∷ xs) [] i x₀ p s = absurd s
+each_at f (x ∷ xs) (u ∷ us) zero x₀ p s = (u, s.0)
+each_at f (x ∷ xs) (u ∷ us) (suc i) x₀ p s = each_at f xs us i x₀ (omega arith) s.1
 
 pub typed_shaped : (w : World) (vs : Valss (shape world-of.the_type).fields) → shadow (owns (shape world-of.the_type).fields ((world-of.the_type).to w) vs) → Shaped w
 typed_shaped w vs g =
     let a = g.1.1.1 in
-    let ts = mapped (executions-of.the_field).into w.executions servers a.0.1.0.1 in
-    let os = mapped (outgoing_of.the_field).into w.outgoing servers a.1.0.1.0.1 in
-    let hs = mapped (hold-of.the_field).into w.holds servers a.1.1.0.1.0.1 in
-    let ds = mapped (delivered-of.the_field).into w.delivered servers a.1.1.1.0.1.0.1 in
+    let ts = a.0.1.0.1 in
+    let os = a.1.0.1.0.1 in
+    let hs = a.1.1.0.1.0.1 in
+    let ds = a.1.1.1.0.1.0.1 in
     record {
-      slots = mapped (request-of.the_field).into w.requests.slots requests_most g.1.1.0.1.1.0.1.0.1;
+      slots = g.1.1.0.1.1.0.1.0.1;
       executions = ts;
       outgoing = os;
       holds = hs;
       delivered = ds;
       tables = λ s h.
-          let e = each_at (executions-of.the_field).into (executions-of.the_field).row.own_val w.executions a.0.0 s no_table (omega arith) a.0.1.1 in
-          rw (seat_own s h) (mapped (execution-of.the_field).into (get_or w.executions s no_table).table executions_most e.1.1.1.0.1.0.1);
+          let e = each_at (executions-of.the_field).row.own_val w.executions a.0.0 s no_table (omega arith) a.0.1.1 in
+          rw (seat_own s h) (e.1.1.1.0.1.0.1);
       packets = λ s h.
-          let e = each_at (outgoing_of.the_field).into (outgoing_of.the_field).row.own_val w.outgoing a.1.0.0 s no_packets (omega arith) a.1.0.1.1 in
+          let e = each_at (outgoing_of.the_field).row.own_val w.outgoing a.1.0.0 s no_packets (omega arith) a.1.0.1.1 in
           rw (seat_own s h) (outgoing_places_lem (get_or w.outgoing s no_packets) e.1.0 e.1.1.1);
       entries = λ s h.
-          let e = each_at (hold-of.the_field).into (hold-of.the_field).row.own_val w.holds a.1.1.0.0 s no_entries (omega arith) a.1.1.0.1.1 in
+          let e = each_at (hold-of.the_field).row.own_val w.holds a.1.1.0.0 s no_entries (omega arith) a.1.1.0.1.1 in
           rw (seat_own s h) (hold_places_lem (get_or w.holds s no_entries) e.1.0 e.1.1.1);
       items = λ s h.
-          let e = each_at (delivered-of.the_field).into (delivered-of.the_field).row.own_val w.delivered a.1.1.1.0.0 s no_items (omega arith) a.1.1.1.0.1.1 in
+          let e = each_at (delivered-of.the_field).row.own_val w.delivered a.1.1.1.0.0 s no_items (omega arith) a.1.1.1.0.1.1 in
           rw (seat_own s h) (delivered_items (get_or w.delivered s no_items) e.1.0 e.1.1.1);
     }

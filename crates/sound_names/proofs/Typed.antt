@@ -13,7 +13,7 @@ use Rattle.world.specs.contracts.request.Request as request-of
 use Rattle.world.specs.contracts.execution.Execution as execution-of
 
 pub request_digest : (q : Request) (vs : Valss (shape request-of.the_type).fields) → shadow (owns (shape request-of.the_type).fields ((request-of.the_type).to q) vs) → length q.digest ≡ digest_bytes
-request_digest q vs g = length_unmapped ℕ q.digest digest_bytes g.1.1.1.1.0.1.0.1
+request_digest q vs g = g.1.1.1.1.0.1.0.1
 
 pub execution_digest : (x : Execution) (vs : Valss (shape execution-of.the_type).fields) → shadow (owns (shape execution-of.the_type).fields ((execution-of.the_type).to x) vs) → length x.digest ≡ digest_bytes
-execution_digest x vs g = length_unmapped ℕ x.digest digest_bytes g.1.1.1.1.0.1.0.1
+execution_digest x vs g = g.1.1.1.1.0.1.0.1

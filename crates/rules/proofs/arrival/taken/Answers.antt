@@ -1,0 +1,5 @@
+use borrow.Author.Rules.{rules}
+use Rattle.rules.proofs.arrival.taken.Goals as goal
+
+pub returns : goal.returns
+returns c = rw c.clear-o.ensures

@@ -1,0 +1,7 @@
+use Rattle.protocol.specs.Rules.{made}
+use borrow.Author.Rules.{rules}
+use Rattle.rules.proofs.orderer.make.Goals as goal
+
+pub returns : goal.returns
+unfolding made
+returns c = rw (c.order-o.ensures, c.before.before.before.«open».ensures)

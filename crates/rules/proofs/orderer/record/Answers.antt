@@ -1,0 +1,7 @@
+use Rattle.protocol.specs.Rules.{recorded}
+use borrow.Author.Rules.{rules}
+use Rattle.rules.proofs.orderer.record.Goals as goal
+
+pub returns : goal.returns
+unfolding recorded
+returns c = rw (c.order-o.ensures, c.call.ensures)

@@ -1,0 +1,5 @@
+use borrow.Author.Rules.{rules}
+use Rattle.rules.proofs.sending.has_room.Goals as goal
+
+pub returns : goal.returns
+returns c = cc

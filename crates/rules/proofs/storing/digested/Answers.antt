@@ -1,0 +1,16 @@
+use Rattle.fips180.specs.Sha256.{digest_of}
+use mathlib.Core.Path.{◌≡◌, sym, ap, ◌∙◌}
+use mathlib.Core.List.{List}
+use Prim.Native.Nat.{ℕ, ◌≤◌}
+use native.Mathlib.Omega.{arith}
+use lib.ListN.{length}
+use Rattle.fips180.specs.declared.Digest.{Digest}
+use Rattle.digest.proofs.Short.{short_digest}
+use Rattle.protocol.specs.Rules.{request_from}
+use borrow.Author.Rules.{rules}
+use Rattle.rules.proofs.storing.digested.Goals as goal
+
+pub returns : goal.returns
+unfolding request_from
+returns c = let l : length c.bytes-bytes.result ≤ 55 = omega arith in
+    rw (ap (λ (d : Digest). d.bytes) c.sha256.ensures ∙ short_digest c.bytes-bytes.result l ∙ ap digest_of c.bytes-bytes.ensures)
