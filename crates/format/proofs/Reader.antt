@@ -121,15 +121,15 @@ no_record (Refused why) h = refl
 no_record End h = refl
 
 -- nor a refusal's
-pub only_end : (x : Read) → OneOf (1 ∷ 2 ∷ []) (tag_of the_type x) → OneOf (0 ∷ 2 ∷ []) (tag_of the_type x) → x ≡ End
-only_end (Record j b next) g h = absurd (⊎_elim (λ w. omega arith) (λ w. omega arith) g)
-only_end (Refused why) g h = absurd (⊎_elim (λ w. omega arith) (λ w. omega arith) h)
+pub only_end : (x : Read) → ((k : Kind) (b next : ℕ) → x ≡ Record k b next → ⊥) → ((why : Refusal) → x ≡ Refused why → ⊥) → x ≡ End
+only_end (Record k b next) g h = absurd (g k b next refl)
+only_end (Refused why) g h = absurd (h why refl)
 only_end End g h = refl
 
 -- nor a start's
-pub no_start : (s : List ℕ) (f : Form) → OneOf (1 ∷ 2 ∷ []) (tag_of form_of.the_type f) → verdict.Refused NoStart 0 ≡ records_judged s f
+pub no_start : (s : List ℕ) (f : Form) → ((body : ℕ) → f ≡ Start body → ⊥) → verdict.Refused NoStart 0 ≡ records_judged s f
 unfolding records_judged
-no_start s (Start body) h = absurd (⊎_elim (λ w. omega arith) (λ w. omega arith) h)
+no_start s (Start body) h = absurd (h body refl)
 no_start s (Step k body) h = refl
 no_start s Bad h = refl
 

@@ -16,7 +16,7 @@ returns-then-s-eq0 c = rw (le-leb _ _ c.if-s-gt-MOST.false) (empty_start _ c.if-
 
 pub returns-in_default : goal.returns-in_default
 unfolding judged must
-returns-in_default c = rw (le-leb _ _ c.if-s-gt-MOST.false, ← c.form_of.ensures) (no_start _ c.form_of.result c.in_default.in_default-own.keys2)
+returns-in_default c = rw (le-leb _ _ c.if-s-gt-MOST.false, ← c.form_of.ensures) (no_start _ c.form_of.result c.in_default.not-Start)
 
 pub returns-then-s-body : goal.returns-then-s-body
 unfolding judged must records_judged

@@ -12,7 +12,7 @@ loop-next-init c = scan_start _ _
 
 pub returns-in_default-read : goal.returns-in_default-read
 returns-in_default-read c = let r = c.read_at-read in
-    scan_accepts _ _ _ _ c.loop-next.invariant (sym r.ensures ∙ only_end r.result c.in_default.in_default-own.keys2 c.in_default-read.in_default-read-own.keys2)
+    scan_accepts _ _ _ _ c.loop-next.invariant (sym r.ensures ∙ only_end r.result c.in_default.not-Record c.in_default-read.not-Refused)
 
 pub returns-in_default : goal.returns-in_default
 returns-in_default c = scan_refuses _ _ _ _ _ c.loop-next.invariant (sym c.read_at-read.ensures ∙ c.in-Refused.is)
