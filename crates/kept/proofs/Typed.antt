@@ -45,15 +45,15 @@ typed_shaped w vs g =
       holds = hs;
       delivered = ds;
       tables = λ s h.
-          let e = each_at (executions-of.the_field).row.own_val w.executions a.0.0 s no_table (omega arith) a.0.1.1 in
-          rw (seat_own s h) (e.1.1.1.0.1.0.1);
+          let e = each_at (executions-of.the_row).own_val w.executions a.0.0 s no_table (omega arith) a.0.1.1 in
+          rw (seat_own s h) e.1.1.1.0.1.0.1;
       packets = λ s h.
-          let e = each_at (outgoing_of.the_field).row.own_val w.outgoing a.1.0.0 s no_packets (omega arith) a.1.0.1.1 in
+          let e = each_at (outgoing_of.the_row).own_val w.outgoing a.1.0.0 s no_packets (omega arith) a.1.0.1.1 in
           rw (seat_own s h) (outgoing_places_lem (get_or w.outgoing s no_packets) e.1.0 e.1.1.1);
       entries = λ s h.
-          let e = each_at (hold-of.the_field).row.own_val w.holds a.1.1.0.0 s no_entries (omega arith) a.1.1.0.1.1 in
+          let e = each_at (hold-of.the_row).own_val w.holds a.1.1.0.0 s no_entries (omega arith) a.1.1.0.1.1 in
           rw (seat_own s h) (hold_places_lem (get_or w.holds s no_entries) e.1.0 e.1.1.1);
       items = λ s h.
-          let e = each_at (delivered-of.the_field).row.own_val w.delivered a.1.1.1.0.0 s no_items (omega arith) a.1.1.1.0.1.1 in
+          let e = each_at (delivered-of.the_row).own_val w.delivered a.1.1.1.0.0 s no_items (omega arith) a.1.1.1.0.1.1 in
           rw (seat_own s h) (delivered_items (get_or w.delivered s no_items) e.1.0 e.1.1.1);
     }

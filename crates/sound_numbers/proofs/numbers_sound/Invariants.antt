@@ -1,0 +1,18 @@
+use Rattle.protocol.specs.Sound.{number_at, numbers_sound}
+use Rattle.sound_numbers.proofs.Filled.{filled_once}
+use borrow.Author.Rules.{rules}
+use Prim.Native.Nat.{ℕ, ◌-◌, ◌+◌}
+use native.Mathlib.Omega.{arith}
+use mathlib.Core.Path.{◌≡◌, ap, ◌∙◌}
+use borrow.Author.Tests.{le-leb, lt-leb}
+use lib.Dec.{eqb}
+use lib.ListN.{get_or}
+use Rattle.search.specs.Search.{every, count}
+use Rattle.search.proofs.Laws.{Held, held_none, held_all, held_tested, held_failed}
+use Rattle.sound_numbers.proofs.numbers_sound.Given as goal
+
+abbrev pub invariant-loop-k : goal.invariant-loop-k
+invariant-loop-k l = Held (λ (j : ℕ). eqb (count (λ (i : ℕ). eqb (get_or l.numbers i 0) (j + 1)) 128) 1) l.numbered l.k
+
+abbrev pub decreases-loop-k : goal.decreases-loop-k
+decreases-loop-k l = l.numbered - l.k

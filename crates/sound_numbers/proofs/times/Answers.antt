@@ -1,0 +1,23 @@
+use borrow.Author.Rules.{rules}
+use mathlib.Core.Path.{◌≡◌, sym}
+use mathlib.Core.Logic.{⊎_elim}
+use Prim.Native.Nat.{ℕ, ◌-◌, ◌≤◌}
+use native.Mathlib.Omega.{arith}
+use borrow.Author.Tests.{eq-eqb, ne_eqb}
+use lib.Dec.{eqb}
+use lib.ListN.{get_or}
+use Rattle.search.specs.Search.{count}
+use Rattle.search.proofs.Laws.{count_none, counted_yes, counted_no}
+use Rattle.sound_numbers.proofs.times.Goals as goal
+
+pub loop-i-init : goal.loop-i-init
+loop-i-init c = (search rules, (search rules, sym (count_none _)))
+
+pub loop-i-preserved : goal.loop-i-preserved
+loop-i-preserved c = let e = c.loop-i.invariant.1.1 in (
+      search rules,
+      ⊎_elim (λ w. (omega arith, counted_yes _ _ _ _ e (eq-eqb _ _ w.0.taken) w.1)) (λ w. (omega arith, counted_no _ _ _ _ e (ne_eqb _ _ w.0.left) w.1)) c.if-numbers-i.branch,
+    )
+
+pub returns : goal.returns
+returns c = let e : c.loop-i.i ≡ 128 = omega arith in rw e at c.loop-i.invariant.1.1

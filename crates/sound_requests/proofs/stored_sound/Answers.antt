@@ -1,0 +1,7 @@
+use Rattle.protocol.specs.Sound.{stored_sound}
+use borrow.Author.Rules.{rules}
+use Rattle.sound_requests.proofs.stored_sound.Goals as goal
+
+pub returns : goal.returns
+unfolding stored_sound
+returns c = cc
