@@ -15,7 +15,7 @@ use Rattle.world.specs.Boxes.{executions_of}
 use Rattle.protocol.specs.Quiet.{quiet}
 use Rattle.world.proofs.Seats.{seat_own}
 use Rattle.agreement.specs.Agreement.{sendings, sending_at, sending_of, Numbered, delivered_by, Begins, Agreed}
-use Rattle.agreement.proofs.Invariant.{Correct, done_item, table_at, Belongs}
+use Rattle.agreement.proofs.Invariant.{Correct, done_at, table_at, Belongs}
 use Rattle.agreement.proofs.Sendings.{id_finds, sending_of_lem, sendings_length, sendings_at, begins_by}
 use Rattle.agreement.proofs.Moving.{seated, few}
 use Rattle.agreement.proofs.Members.{Good, member_of, member_belongs}
@@ -59,18 +59,18 @@ module _ (w : World) (g : Good w) where
 
   module _ (p : ℕ) (c : Correct w.roster p) where
     -- what the server delivered, in number and one by one
-    done_length : length (delivered_by w p) ≡ (done_item w.delivered p).count
+    done_length : length (delivered_by w p) ≡ (done_at w.delivered p).count
     done_length =
-        let d = done_item w.delivered p in
+        let d = done_at w.delivered p in
         let l = seated w g.facts p c in
         let size = (g.facts.items p l).size in
         let most = few w g.facts p c in
         let top = g.facts.numbers.most in
         rw (seat_own p l) (length-take-le d.count d.items (omega arith))
 
-    done_item : (k : ℕ) → k < (done_item w.delivered p).count → get_or (delivered_by w p) k no_sending ≡ sending_of w (k + 1)
+    done_item : (k : ℕ) → k < (done_at w.delivered p).count → get_or (delivered_by w p) k no_sending ≡ sending_of w (k + 1)
     done_item k h =
-        let d = done_item w.delivered p in
+        let d = done_at w.delivered p in
         rw (seat_own p (seated w g.facts p c))
         (get_or-take d.count d.items k no_sending h ∙ sym (sending_of_lem w g.facts (g.inv.prefix p k c h)))
 

@@ -132,8 +132,8 @@ module _ (w : World) (f : FactsOf w) where
       (λ i h y. counted t h (eqb-true (number_at w.executions i) n y ∙ sym e) (omega arith)))
 
   -- and an execution's digest the slot of its request
-  slot_of : {slot : ℕ} {x : Execution} → Matches w.requests slot x → slot_of w.requests x.digest ≡ slot
-  slot_of {slot} {x} m =
+  slot_of_lem : {slot : ℕ} {x : Execution} → Matches w.requests slot x → slot_of w.requests x.digest ≡ slot
+  slot_of_lem {slot} {x} m =
       let q = w.requests in
       let l = m.stored in
       let top = f.requests.most in
@@ -155,7 +155,7 @@ module _ (w : World) (f : FactsOf w) where
       in
       sendings_by w.requests w.executions t.seated z
       ∙ ap (λ (j : ℕ). record { id = j; sender = s; slot = slot_of w.requests x.digest }) b.id
-      ∙ ap (λ (j : ℕ). record { id = i; sender = s; slot = j }) (slot_of b.matches)
+      ∙ ap (λ (j : ℕ). record { id = i; sender = s; slot = j }) (slot_of_lem b.matches)
 
 pub sendings_length : (w : World) (m : ℕ) → length (sendings_to w m) ≡ m
 unfolding sendings_to

@@ -10,7 +10,7 @@ use Rattle.protocol.specs.Steps.{step_of, world_after}
 use Rattle.protocol.specs.Runs.{start_world}
 use Rattle.format.proofs.Judged.{accepted_means}
 use Rattle.kept.proofs.Stepping.{step_facts, ran_keeps, public_keeps, started_keeps}
-use Rattle.agreement.specs.Agreement.{Agreed, through, Demand, by_record, by_bytes_lem, RunAgrees, RanAgrees, RowAgrees}
+use Rattle.agreement.specs.Agreement.{Agreed, through, Demand, by_record, by_bytes, RunAgrees, RanAgrees, RowAgrees}
 use Rattle.agreement.proofs.Stepping.{steps}
 use Rattle.agreement.proofs.Small.{step_small}
 use Rattle.agreement.proofs.Members.{Good}
@@ -31,7 +31,7 @@ by_record_lem w a g =
     let m = steps w a g.facts g.inv in
     record { good = record { facts = step_facts w a g.facts; inv = m.inv; small = step_small w a g.small }; moves = m }
 
-by_bytes_lem : (w : World) (s : List ℕ) → Good w → Leads w (by_bytes_lem w s)
+by_bytes_lem : (w : World) (s : List ℕ) → Good w → Leads w (by_bytes w s)
 by_bytes_lem w s g = public_keeps (Leads w) w s (leads_same g) (λ a. by_record_lem w a g)
 
 pub run_agrees : RunAgrees
@@ -44,5 +44,5 @@ ran_agrees s room k =
 
 pub row_agrees : RowAgrees
 row_agrees n faulty l =
-    started_keeps (λ (w : World). Demand by_bytes_lem w l) n faulty
-    (λ e. demand by_bytes_lem by_bytes_lem (fresh_world n faulty) (start_good n faulty e) (none_numbered n faulty) l)
+    started_keeps (λ (w : World). Demand by_bytes w l) n faulty
+    (λ e. demand by_bytes by_bytes_lem (fresh_world n faulty) (start_good n faulty e) (none_numbered n faulty) l)

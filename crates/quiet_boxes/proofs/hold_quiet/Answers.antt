@@ -3,6 +3,7 @@ use borrow.Author.Rules.{rules}
 use Prim.Native.Nat.{ℕ, ◌-◌}
 use native.Mathlib.Omega.{arith}
 use mathlib.Core.Bool.{not}
+use mathlib.Core.Path.{sym, ap, ◌∙◌}
 use Rattle.search.proofs.Laws.{Held, held_none, held_more, held_not, held_all}
 use Rattle.world.specs.Hold.{entry_at}
 use Rattle.protocol.specs.Names.{table_of}
@@ -19,7 +20,9 @@ pub bounds-tables-s : goal.bounds-tables-s
 bounds-tables-s c = seated (entry_at c.args.h c.loop-k.k).sending.sender _ c.seat-s.ensures
 
 pub loop-k-preserved : goal.loop-k-preserved
-loop-k-preserved c = held_more _ _ _ (omega arith) (cc) c.loop-k.invariant
+loop-k-preserved c =
+    let e = sym c.stirs.ensures ∙ c.if-stirs.false in
+    held_more _ _ _ (omega arith) (ap not (rw c.seat-s.ensures at e)) c.loop-k.invariant
 
 pub returns-then-k-eq-PLACES : goal.returns-then-k-eq-PLACES
 unfolding hold_quiet
@@ -27,4 +30,6 @@ returns-then-k-eq-PLACES c = held_all _ _ _ c.if-k-eq-PLACES.true c.loop-k.invar
 
 pub returns-then-stirs : goal.returns-then-stirs
 unfolding hold_quiet
-returns-then-stirs c = held_not _ _ _ (omega arith) (cc) c.loop-k.invariant
+returns-then-stirs c =
+    let e = sym c.stirs.ensures ∙ c.if-stirs.true in
+    held_not _ _ _ (omega arith) (ap not (rw c.seat-s.ensures at e)) c.loop-k.invariant

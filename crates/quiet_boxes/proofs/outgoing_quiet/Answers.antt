@@ -1,3 +1,4 @@
+use mathlib.Core.Path.{ap}
 use borrow.Author.Rules.{rules}
 use Prim.Native.Nat.{ℕ, ◌-◌}
 use native.Mathlib.Omega.{arith}
@@ -12,7 +13,7 @@ pub loop-k-init : goal.loop-k-init
 loop-k-init c = held_none _ _
 
 pub loop-k-preserved : goal.loop-k-preserved
-loop-k-preserved c = held_more _ _ _ (omega arith) (cc) c.loop-k.invariant
+loop-k-preserved c = held_more _ _ _ (omega arith) (rw (← c.is_correct.ensures) (ap not c.if-p-is_correct.false)) c.loop-k.invariant
 
 pub returns-then-k-eq-PLACES : goal.returns-then-k-eq-PLACES
 unfolding outgoing_quiet
@@ -20,4 +21,4 @@ returns-then-k-eq-PLACES c = held_all _ _ _ c.if-k-eq-PLACES.true c.loop-k.invar
 
 pub returns-then-p-is_correct : goal.returns-then-p-is_correct
 unfolding outgoing_quiet
-returns-then-p-is_correct c = held_not _ _ _ (omega arith) (cc) c.loop-k.invariant
+returns-then-p-is_correct c = held_not _ _ _ (omega arith) (rw (← c.is_correct.ensures) (ap not c.if-p-is_correct.true)) c.loop-k.invariant
