@@ -1,0 +1,18 @@
+use Rattle.protocol.specs.Longest.{item_most}
+use borrow.Author.Rules.{rules}
+use Prim.Native.Nat.{◌+◌, ◌-◌, ◌*◌, ◌≤◌}
+use native.Mathlib.Omega.{arith}
+use mathlib.Core.Path.{◌≡◌, refl}
+use lib.ListN.{take}
+use Rattle.world.proofs.Typed.{delivered_items}
+use Rattle.writing.specs.Writing.{Wrote}
+use Rattle.protocol.specs.Listing.{item_texts}
+use Rattle.writing.proofs.Placing.{wrote_length}
+use Rattle.server_lines.proofs.Rows.{items_none, items_more, items_all}
+use Rattle.server_lines.proofs.put_items.Given as goal
+
+abbrev pub invariant-loop-k : goal.invariant-loop-k
+invariant-loop-k l = (l.k ≤ l.count) × ((l.end ≤ l.at + l.k * item_most) × Wrote l.initial.text l.at (item_texts (take l.k l.d.items)) l.text l.end)
+
+abbrev pub decreases-loop-k : goal.decreases-loop-k
+decreases-loop-k l = l.count - l.k

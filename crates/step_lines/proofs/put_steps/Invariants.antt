@@ -1,0 +1,17 @@
+use Rattle.protocol.specs.Longest.{step_most}
+use borrow.Author.Rules.{rules}
+use Prim.Native.Nat.{◌+◌, ◌-◌, ◌*◌, ◌≤◌}
+use native.Mathlib.Omega.{arith}
+use mathlib.Core.Path.{◌≡◌}
+use lib.ListN.{take}
+use Rattle.writing.specs.Writing.{Wrote}
+use Rattle.protocol.specs.Listing.{step_lines}
+use Rattle.writing.proofs.Placing.{wrote_length}
+use Rattle.step_lines.proofs.Rows.{steps_none, steps_more}
+use Rattle.step_lines.proofs.put_steps.Given as goal
+
+abbrev pub invariant-loop-i : goal.invariant-loop-i
+invariant-loop-i l = (l.i ≤ l.records) × ((l.end ≤ l.at + l.i * step_most) × Wrote l.initial.text l.at (step_lines 1 (take l.i l.answers)) l.text l.end)
+
+abbrev pub decreases-loop-i : goal.decreases-loop-i
+decreases-loop-i l = l.records - l.i
