@@ -114,9 +114,9 @@ is_record (Record j b next) = 1
 is_record (Refused why) = 0
 is_record End = 0
 
--- a tag that is not a record's
-pub no_record : (x : Read) → OneOf (1 ∷ 2 ∷ []) (tag_of the_type x) → is_record x ≡ 0
-no_record (Record j b next) h = ⊎_elim (λ w. omega arith) (λ w. omega arith) h
+-- what is not a record
+pub no_record : (x : Read) → ((k : Kind) (b next : ℕ) → x ≡ Record k b next → ⊥) → is_record x ≡ 0
+no_record (Record k b next) h = absurd (h k b next refl)
 no_record (Refused why) h = refl
 no_record End h = refl
 
