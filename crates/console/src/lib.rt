@@ -1,39 +1,73 @@
-// What a program tells of its own start, reading and writing. The language has no exit status, so that a thing went
-// wrong is said on standard error, and standard output stays empty.
+// What a program tells of its own start, reading and writing. A read or a write that failed ends it with a status of 1
+// and a line on standard error, and standard output stays empty.
 #![tactic(auto)]
 
+ghost use Rattle.std.specs.Prelude.{◌≤◌, length, IfOk};
+
+use std::env::{Env, FillError};
+use std::fmt;
+use std::fmt::{Debug, Formatter};
+use std::io;
+use std::io::Read;
+
+// What failed, and why.
+#[derive(Drop)]
+pub struct Failure {
+    stream: &'static str,
+    why: io::Error,
+}
+
+impl Debug for Failure {
+    fn fmt<W: fmt::Write>(&self, f: &mut Formatter<W>) -> fmt::Result {
+        let stream = self.stream;
+        let why = &self.why;
+        write!(f, "{stream}: {why}")
+    }
+}
+
 // Whether the program was started with arguments, which nobody reads; then it is told.
-pub fn has_arguments(program: &[u8]) -> bool {
-    if os::arg_count() <= 1 {
+pub fn has_arguments<R: Env + Eprint>(rt: &R, program: &str) -> bool {
+    let mut argument = [0u8; 1];
+    if let Err(FillError::NotPresent) = rt.arg(1, &mut argument) {
         return false;
     }
-    io::write_all(libc::STDERR_FILENO, program);
-    io::write_all(
-        libc::STDERR_FILENO,
-        b" takes no arguments: it reads standard input\n",
-    );
+    let _ = eprintln!(rt; "{program} takes no arguments: it reads standard input");
     true
 }
 
-// To be called ahead of a read: no call has failed yet. (To ask for an argument that is there sets the system's error
-// to none.)
-pub fn begin() {
-    let mut name = io::buffer();
-    os::arg(0, &mut name);
-}
-
-// Whether a read since then has failed; then it is told.
-pub fn read_failed() -> bool {
-    if os::errno() == 0 {
-        return false;
+// Reads standard input up to its end, or until the buffer is full; answers how many bytes it had.
+pub fn read<R: Input>(rt: &R, buf: &mut [u8]) -> Result<usize, Failure>
+    ensures { IfOk result (λ n. n ≤ length buf.old) }
+{
+    let mut reader = rt.reader();
+    let mut at: usize = 0;
+    for _ in 0..u64::MAX {
+        if at == buf.len() {
+            break;
+        }
+        match reader.read(&mut buf[at..]) {
+            Ok(0) => break,
+            Ok(n) => at += n,
+            Err(why) => {
+                if why.kind() != io::ErrorKind::Interrupted {
+                    return Err(Failure {
+                        stream: "standard input",
+                        why,
+                    });
+                }
+            }
+        }
     }
-    os::fail(b"standard input");
-    true
+    Ok(at)
 }
 
-// Writes all of a text to standard output, or tells that it could not.
-pub fn write(text: &[u8]) {
-    if !io::write_all(libc::STDOUT_FILENO, text) {
-        os::fail(b"standard output");
+// Writes all of a text to standard output.
+pub fn write<R: Print>(rt: &R, text: &[u8]) -> Result<(), Failure> {
+    match rt.write_all(text) {
+        Ok(()) => Ok(()),
+        Err(why) => Err(Failure {
+            stream: "standard output",
+            why,
+        }),
     }
 }

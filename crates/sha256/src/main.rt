@@ -1,25 +1,21 @@
 // Prints the SHA-256 of standard input, of at most 55 bytes; more is refused, by code and place.
 #![tactic(auto)]
 
+use console::Failure;
 use fips180::Digest;
 use hex_text::Line;
 
-fn main() {
-    if console::has_arguments(b"sha256") {
-        return;
+fn main(rt: HostRuntime) -> Result<(), Failure> {
+    if console::has_arguments(&rt, "sha256") {
+        return Ok(());
     }
     let mut message = [0u8; Digest::MOST + 1];
-    console::begin();
-    let n = io::read_full(libc::STDIN_FILENO, &mut message);
-    if console::read_failed() {
-        return;
-    }
+    let n = console::read(&rt, &mut message)?;
     let d = digest::sha256(&message[..n]);
     if d.code == Digest::LONG {
-        console::write(b"refused 28 0\n");
-        return;
+        return console::write(&rt, b"refused 28 0\n");
     }
     let digest = d.bytes;
     let text = Line::of(digest).text;
-    console::write(&text);
+    console::write(&rt, &text)
 }

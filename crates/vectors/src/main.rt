@@ -5,6 +5,7 @@
 
 ghost use Rattle.std.specs.Prelude.{◌<◌};
 
+use console::Failure;
 use fips180::Digest;
 use hex_text::Line;
 
@@ -20,22 +21,18 @@ fn value(c: u8) -> u8
 }
 
 // Writes the digest of a message.
-fn show(message: &[u8]) {
+fn show<R: Print>(rt: &R, message: &[u8]) -> Result<(), Failure> {
     let digest = digest::sha256(message).bytes;
     let text = Line::of(digest).text;
-    console::write(&text);
+    console::write(rt, &text)
 }
 
-fn main() {
-    if console::has_arguments(b"vectors") {
-        return;
+fn main(rt: HostRuntime) -> Result<(), Failure> {
+    if console::has_arguments(&rt, "vectors") {
+        return Ok(());
     }
     let mut lines = [0u8; 4096];
-    console::begin();
-    let n = io::read_full(libc::STDIN_FILENO, &mut lines);
-    if console::read_failed() {
-        return;
-    }
+    let n = console::read(&rt, &mut lines)?;
     let mut message = [0u8; Digest::MOST];
     let mut digits: usize = 0;
     let mut i: usize = 0;
@@ -44,7 +41,7 @@ fn main() {
         let at = digits / 2;
         i += 1;
         if c == b'\n' {
-            show(&message[..at]);
+            show(&rt, &message[..at])?;
             digits = 0;
             continue;
         }
@@ -53,4 +50,5 @@ fn main() {
             digits += 1;
         }
     }
+    Ok(())
 }
