@@ -1,5 +1,5 @@
 -- Laws of the loops that fill the message schedule, and of a word's bytes. Assumes nothing.
-use Rattle.std.proofs.Common.{◌≡◌, ℕ, suc, ◌+◌, ◌*◌, ◌/◌, ◌%◌, ◌^◌, ◌<◌, List, [], ◌∷◌, ◌++◌, length, get_or, take, set, sym, ap, ◌∙◌, add-one, arith, get_or-take}
+use Rattle.std.proofs.Common.{◌≡◌, ℕ, suc, ◌+◌, ◌*◌, ◌/◌, ◌%◌, ◌^◌, ◌<◌, List, [], ◌∷◌, ◌++◌, length, take, set, sym, ap, ◌∙◌, add-one, arith, get_or-take}
 use native.Mathlib.Numerals.{add-two, add-three}
 use lib.Seq.{sets}
 use Rattle.fips180.specs.Sha256.{be, scheduled, next_word, block_words, word_at}

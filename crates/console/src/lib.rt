@@ -5,10 +5,9 @@
 ghost use Rattle.std.specs.Prelude.{◌≤◌, length, IfOk};
 
 use std::env::{Env, FillError};
-use std::fmt;
 use std::fmt::{Debug, Formatter};
-use std::io;
 use std::io::Read;
+use std::{fmt, io};
 
 // What failed, and why.
 #[derive(Drop)]

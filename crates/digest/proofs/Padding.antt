@@ -2,10 +2,9 @@
 use mathlib.Core.Path.{◌≡◌, sym, ap, ◌∙◌, subst}
 use mathlib.Core.List.{List, ◌∷◌, ◌++◌}
 use Prim.Native.Nat.{ℕ, zero, suc, ◌+◌, ◌-◌, ◌*◌, ◌/◌, ◌%◌, ◌^◌, ◌≤◌, ◌<◌}
-use native.Mathlib.Numerals.{add-one, add-two, add-three}
 use native.Mathlib.Omega.{arith}
-use lib.ListN.{length, get_or, set, replicate, length-replicate, get_or-replicate, get_or-append, length-append}
-use lib.Seq.{sets, get_or-append-add, get_or-append_seam}
+use lib.ListN.{length, get_or, replicate, length-replicate, get_or-replicate, get_or-append, length-append}
+use lib.Seq.{get_or-append-add, get_or-append_seam}
 use lib.Bits.{bit_and, and_mask}
 use Rattle.fips180.specs.Sha256.{block_bytes, be, padded, zeros, blocks}
 

@@ -1,5 +1,5 @@
 -- Laws of the table of kinds, each by one test that is computed over the whole table. Assumes nothing.
-use mathlib.Core.Path.{◌≡◌, refl, sym, ◌∙◌}
+use mathlib.Core.Path.{◌≡◌, refl}
 use mathlib.Core.Bool.{Bool, true}
 use mathlib.Core.Logic.{◌≢◌}
 use Prim.Native.Nat.{ℕ, suc, ◌≤◌, ◌<◌}

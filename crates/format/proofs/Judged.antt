@@ -1,7 +1,7 @@
 -- What it means that a schedule is accepted, and where a refused one is refused. Assumes nothing.
-use mathlib.Core.Path.{◌≡◌, refl, sym, ap, ◌∙◌}
+use mathlib.Core.Path.{◌≡◌, refl, ◌∙◌}
 use mathlib.Core.Bool.{Bool, true, false}
-use mathlib.Core.List.{List, []}
+use mathlib.Core.List.{List}
 use Prim.Native.Nat.{ℕ, zero, suc, ◌+◌, ◌-◌, ◌*◌, ◌≤◌}
 use native.Mathlib.Omega.{arith}
 use borrow.Author.Tests.{leb-true, le-leb}
@@ -19,7 +19,7 @@ use Rattle.format.specs.declared.verdict.Verdict.{Verdict}
 use Rattle.format.specs.declared.verdict.Verdict.TheVariants.{Accepted, Refused}
 use Rattle.format.specs.Fields.{byte_at}
 use Rattle.format.specs.Records.{start_body, start_bytes, form_of, read_at, Asked, asked_by, asked_after, asked}
-use Rattle.format.specs.Judging.{schedule_most, scan_by, scan_from, scanned, start_roster, start_judged, records_judged, judged, Accepts, AcceptedMeans, RefusedThere, RecordsFirst}
+use Rattle.format.specs.Judging.{schedule_most, scan_by, scan_from, scanned, start_roster, start_judged, records_judged, judged, AcceptedMeans, RefusedThere, RecordsFirst}
 use Rattle.format.proofs.Forms.{start_body_lem}
 use Rattle.format.proofs.Reader.{known}
 

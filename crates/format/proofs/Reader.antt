@@ -1,18 +1,13 @@
 -- What the record reader tells, and the law of the loop that scans a schedule. Assumes nothing.
 use mathlib.Core.Path.{◌≡◌, refl, sym, ◌∙◌}
 use mathlib.Core.Bool.{Bool, true, false, cond}
-use mathlib.Core.List.{List, [], ◌∷◌}
-use mathlib.Core.Logic.{⊎_elim}
+use mathlib.Core.List.{List}
 use Prim.Native.Nat.{ℕ, zero, suc, ◌+◌, ◌-◌, ◌<◌, ◌≤◌}
 use native.Mathlib.Omega.{arith}
 use borrow.Author.Tests.{leb-true, leb-false}
 use lib.Dec.{leb}
 use lib.ListN.{length}
-use denote.Enum.Declared.{tag_of}
-use types.Run.{OneOf}
 use Rattle.search.proofs.Lists.{get_d_out}
-use Rattle.format.specs.contracts.reading.Read.{the_type}
-use Rattle.format.specs.contracts.kinds.Form as form_of
 use Rattle.format.specs.declared.kinds.Kind.{Kind}
 use Rattle.format.specs.declared.kinds.Form.{Form}
 use Rattle.format.specs.declared.kinds.Form.TheVariants.{Start, Step, Bad}
@@ -20,7 +15,6 @@ use Rattle.format.specs.declared.refusal.Refusal.{Refusal}
 use Rattle.format.specs.declared.refusal.Refusal.TheVariants.{Cut, NoStart}
 use Rattle.format.specs.declared.reading.Read.{Read}
 use Rattle.format.specs.declared.reading.Read.TheVariants.{Record, Refused, End}
-use Rattle.format.specs.declared.verdict.Verdict.{Verdict}
 use Rattle.format.specs.declared.verdict.Verdict.TheVariants as verdict
 use Rattle.format.specs.Fields.{byte_at}
 use Rattle.format.specs.Records.{form_of, read_by, read_at}

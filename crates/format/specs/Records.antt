@@ -2,7 +2,6 @@
 use Rattle.std.specs.Prelude.{ℕ, zero, suc, ◌+◌, ◌-◌, cond, List, [], ◌∷◌, leb, length, get_or}
 use Rattle.fips180.specs.Digest.{digest_bytes}
 use Rattle.world.specs.Sizes.{head_bytes, command_bytes}
-use Rattle.format.specs.declared.kinds.Act.{Act}
 use Rattle.format.specs.declared.kinds.Act.TheVariants as act
 use Rattle.format.specs.declared.kinds.Kind.{Kind}
 use Rattle.format.specs.declared.kinds.Kind.TheVariants as kind

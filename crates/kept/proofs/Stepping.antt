@@ -2,16 +2,13 @@
 use mathlib.Core.Path.{◌≡◌, refl, sym}
 use mathlib.Core.Bool.{true}
 use mathlib.Core.List.{List, [], ◌∷◌}
-use Prim.Native.Nat.{ℕ, ◌-◌, ◌+◌, ◌<◌, ◌≤◌}
+use Prim.Native.Nat.{ℕ, ◌<◌}
 use native.Mathlib.Omega.{arith}
-use lib.Count.{ones}
 use lib.Dec.{leb}
-use lib.ListN.{length}
-use borrow.Author.Tests.{ltb-true, leb-true}
+use borrow.Author.Tests.{ltb-true}
 use Rattle.world.specs.declared.World.{World}
-use Rattle.world.specs.declared.roster.Roster.{Roster}
 use Rattle.world.specs.Sizes.{servers}
-use Rattle.world.specs.Roster.{member, faults, good_roster}
+use Rattle.world.specs.Roster.{member, good_roster}
 use Rattle.world.specs.Fresh.{fresh_world}
 use Rattle.world.specs.Outgoing.{packet_at}
 use Rattle.world.specs.Hold.{entry_at}
@@ -19,22 +16,19 @@ use Rattle.world.specs.Boxes.{seat, outgoing_of, hold_of}
 use Rattle.protocol.specs.Sound.{sound}
 use Rattle.world.proofs.Seats.{seat_own, seated, few_servers}
 use Rattle.protocol.specs.declared.boxes.Boxes.{Boxes}
-use Rattle.format.specs.declared.kinds.Form.{Form}
-use Rattle.format.specs.declared.kinds.Form.TheVariants.{Start, Step, Bad}
-use Rattle.format.specs.declared.refusal.Refusal.{Refusal}
 use Rattle.format.specs.declared.reading.Read.{Read}
 use Rattle.format.specs.declared.reading.Read.TheVariants as read
 use Rattle.format.specs.declared.verdict.Verdict.{Verdict}
 use Rattle.format.specs.declared.verdict.Verdict.TheVariants.{Accepted, Refused}
 use Rattle.format.specs.Fields.{byte_at}
-use Rattle.format.specs.Records.{Asked, Request, Multicast, Arrive, Propose, Settle, Deliver, ForgePacket, ForgeSend, ForgeReceive, form_of, read_at, asked}
-use Rattle.format.specs.Judging.{schedule_most, scanned, start_judged, records_judged, judged}
+use Rattle.format.specs.Records.{Asked, Request, Multicast, Arrive, Propose, Settle, Deliver, ForgePacket, ForgeSend, ForgeReceive, read_at, asked}
+use Rattle.format.specs.Judging.{judged}
 use Rattle.protocol.specs.declared.ending.Outcome.{Outcome}
 use Rattle.protocol.specs.Steps.{touch, boxes_of, put_back, step_of, world_after}
 use Rattle.protocol.specs.Runs.{start_of, public_step_by, public_step, start_world, with_room, ran_by, ran_of}
 use Rattle.format.proofs.Judged.{never, accepted_means}
 use Rattle.kept.specs.Kept.{StartSound, StartShaped, StepSound, StepShaped, RunSound, RanSound, public_steps, RowSound}
-use Rattle.search.proofs.Booleans.{musts, and4}
+use Rattle.search.proofs.Booleans.{musts}
 use Rattle.kept.proofs.Facts.{FactsOf, world_out, world_in, world_shaped}
 use Rattle.kept.proofs.Start.{start_facts}
 use Rattle.kept.proofs.Putting.{Fits, boxes_fit, put_facts}

@@ -1,5 +1,5 @@
 -- Every world that the code holds is shaped: what owning one tells. Assumes nothing.
-use mathlib.Core.List.{List, [], ◌∷◌, map}
+use mathlib.Core.List.{List, [], ◌∷◌}
 use Prim.Native.Nat.{ℕ, zero, suc, ◌<◌}
 use native.Mathlib.Omega.{arith}
 use lib.ListN.{length, get_or}
@@ -10,16 +10,13 @@ use denote.Array.{each}
 use denote.RattleType.{owns, Valss}
 use denote.Struct.Declared.{shape}
 use Rattle.world.specs.declared.World.{World}
-use Rattle.world.specs.Sizes.{servers, requests_most, executions_most}
 use Rattle.world.specs.Boxes.{no_table, no_packets, no_entries, no_items}
 use Rattle.world.specs.contracts.World as world-of
-use Rattle.world.specs.contracts.request.Request as request-of
 use Rattle.world.specs.contracts.execution.Executions as executions-of
-use Rattle.world.specs.contracts.execution.Execution as execution-of
 use Rattle.world.specs.contracts.outgoing.Outgoing as outgoing_of
 use Rattle.world.specs.contracts.hold.Hold as hold-of
 use Rattle.world.specs.contracts.delivered.Delivered as delivered-of
-use Rattle.world.proofs.Typed.{mapped, outgoing_places_lem, hold_places_lem, delivered_items}
+use Rattle.world.proofs.Typed.{outgoing_places_lem, hold_places_lem, delivered_items}
 use Rattle.world.proofs.Seats.{seat_own}
 use Rattle.kept.specs.Kept.{Shaped}
 

@@ -1,19 +1,15 @@
 -- What a run that has ends k records knows. Assumes nothing.
-use mathlib.Core.Path.{◌≡◌, refl, sym, ap, ◌∙◌}
-use mathlib.Core.Bool.{Bool, true, false, cond}
+use mathlib.Core.Path.{◌≡◌, refl, sym, ◌∙◌}
 use mathlib.Core.List.{List, [], ◌∷◌, ◌++◌, append_assoc, append-nil}
 use Prim.Native.Nat.{ℕ, zero, suc, ◌+◌, ◌-◌, ◌<◌, ◌≤◌}
 use native.Mathlib.Omega.{arith}
 use native.Mathlib.Numerals.{add-one}
-use lib.Dec.{eqb, leb}
 use lib.ListN.{take-append-drop, get_or, length, take, drop, set, length-set}
 use lib.Seq.{take-suc-set, drop-set-lt, drop-drop}
-use Rattle.search.specs.Tests.{must}
 use Rattle.world.specs.declared.World.{World}
 use Rattle.world.specs.declared.outgoing.Packet.{Packet}
 use Rattle.world.specs.declared.hold.Entry.{Entry}
 use Rattle.world.specs.Sizes.{command_bytes}
-use Rattle.world.specs.Roster.{good_roster}
 use Rattle.world.specs.Outgoing.{packet_at}
 use Rattle.world.specs.Hold.{entry_at}
 use Rattle.world.specs.Boxes.{seat, with_requests, no_packets, no_entries}
@@ -22,20 +18,13 @@ use Rattle.protocol.specs.declared.boxes.Requested.{Requested}
 use Rattle.protocol.specs.Answers.{answer_code}
 use Rattle.protocol.specs.Rules.{request_of}
 use Rattle.format.specs.declared.kinds.Act.{Act}
-use Rattle.format.specs.declared.kinds.Act.TheVariants as act
 use Rattle.format.specs.declared.kinds.Kind.{Kind}
 use Rattle.format.specs.declared.kinds.Kind.TheVariants as kind
-use Rattle.format.specs.declared.kinds.Form.{Form}
-use Rattle.format.specs.declared.kinds.Form.TheVariants.{Start, Step, Bad}
-use Rattle.format.specs.declared.refusal.Refusal.TheVariants.{TooLong, Cut, BadStart}
 use Rattle.format.specs.declared.reading.Read.{Read}
 use Rattle.format.specs.declared.reading.Read.TheVariants.{Record, End}
 use Rattle.format.specs.declared.reading.Read.TheVariants as read
-use Rattle.format.specs.declared.verdict.Verdict.{Verdict}
-use Rattle.format.specs.declared.verdict.Verdict.TheVariants.{Accepted, Refused}
 use Rattle.format.specs.Fields.{byte_at, four_at, bytes_at}
-use Rattle.format.specs.Records.{form_of, read_at, Asked, asked_from, asked_by, asked_after, asked}
-use Rattle.format.specs.Judging.{judged}
+use Rattle.format.specs.Records.{read_at, Asked, asked_from, asked_by, asked_after, asked}
 use Rattle.format.proofs.Reader.{Known, known, is_record}
 use Rattle.protocol.specs.declared.boxes.Touch.{Touch}
 use Rattle.protocol.specs.Steps.{ends, put_back, boxes_of, step_of, world_after, answers_of}

@@ -1,8 +1,6 @@
 -- What the types say of requests and executions: how long their digests are. Assumes nothing.
 use mathlib.Core.Path.{◌≡◌}
-use Prim.Native.Nat.{ℕ}
 use lib.ListN.{length}
-use borrow.Author.Rules.{length_unmapped}
 use denote.Shadow.{shadow}
 use denote.RattleType.{owns, Valss}
 use denote.Struct.Declared.{shape}

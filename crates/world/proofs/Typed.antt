@@ -1,7 +1,6 @@
 -- What the types say of the boxes: how long their arrays are. Assumes nothing.
 use Rattle.std.proofs.Common.{◌≡◌, ℕ, List, map, length, sym, ◌∙◌}
 use lib.ListN.{length-map}
-use borrow.Author.Rules.{length_unmapped}
 use denote.Shadow.{shadow}
 use denote.RattleType.{owns, Valss}
 use denote.Struct.Declared.{shape}
@@ -11,11 +10,8 @@ use Rattle.world.specs.declared.delivered.Delivered.{Delivered}
 use Rattle.world.specs.declared.request.Request.{Request}
 use Rattle.world.specs.Sizes.{hold_places, outgoing_places, delivered_most, command_bytes}
 use Rattle.world.specs.contracts.hold.Hold as hold-of
-use Rattle.world.specs.contracts.hold.Entry as entry_of
 use Rattle.world.specs.contracts.outgoing.Outgoing as outgoing_of
-use Rattle.world.specs.contracts.outgoing.Packet as packet-of
 use Rattle.world.specs.contracts.delivered.Delivered as delivered-of
-use Rattle.world.specs.contracts.sending.Sending as sending_of_lem
 use Rattle.world.specs.contracts.request.Request as request-of
 
 -- a list is as long as its image

@@ -1,4 +1,3 @@
-use borrow.Author.Rules.{rules}
 use Rattle.bridge.proofs.staubharfe_quiet.Goals as goal
 
 pub returns : goal.returns

@@ -1,5 +1,4 @@
 use Rattle.bridge.specs.Bridge.{run_of}
-use borrow.Author.Rules.{rules}
 use Rattle.bridge.proofs.staubharfe_run.Goals as goal
 
 pub returns-in-Accepted : goal.returns-in-Accepted

@@ -1,6 +1,5 @@
 use mathlib.Core.Path.{ap}
 use Rattle.fips180.specs.declared.Digest.{Digest}
-use borrow.Author.Rules.{rules}
 use Rattle.bridge.proofs.staubharfe_sha256.Goals as goal
 
 pub returns : goal.returns

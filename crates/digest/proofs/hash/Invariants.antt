@@ -1,10 +1,6 @@
-use borrow.Author.Rules.{rules}
-use mathlib.Core.Path.{◌≡◌, sym, ap, ◌∙◌}
+use mathlib.Core.Path.{◌≡◌}
 use Prim.Native.Nat.{◌-◌, ◌≤◌}
-use native.Mathlib.Numerals.{add-one}
-use native.Mathlib.Omega.{arith}
-use Rattle.fips180.specs.Sha256.{padded, hashed, blocks}
-use Rattle.digest.proofs.Padding.{block_count}
+use Rattle.fips180.specs.Sha256.{padded, hashed}
 use Rattle.digest.proofs.hash.Given as goal
 
 abbrev pub invariant-loop-k : goal.invariant-loop-k

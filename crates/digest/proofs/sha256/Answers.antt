@@ -1,7 +1,6 @@
 use borrow.Author.Tests.{lt-ltb, le-ltb}
 use Rattle.fips180.specs.Digest.{digest_answer}
 use Rattle.fips180.specs.Sha256.{digest_of}
-use borrow.Author.Rules.{rules}
 use Rattle.digest.proofs.sha256.Goals as goal
 
 pub returns-then-s-gt-MOST : goal.returns-then-s-gt-MOST

@@ -1,5 +1,4 @@
 use borrow.Author.Tests.{lt-ltb, le-ltb}
-use borrow.Author.Rules.{rules}
 use Rattle.hex_text.proofs.hex_digit.Goals as goal
 
 pub returns-then-n-lt10 : goal.returns-then-n-lt10

@@ -1,14 +1,13 @@
-use borrow.Author.Rules.{rules}
 use Rattle.writing.proofs.Placing.{listed, wrote_length}
 use Rattle.listing.proofs.Fates.{accepted, refused}
 use Rattle.listing.proofs.list.Goals as goal
 
 pub put_run-requires : goal.put_run-requires
 put_run-requires c = let a = accepted c.args.schedule.now c.args.answers.now _ c.run-ran.result _ c.run-ran.ensures.value c.run-ran.ensures.answers_after c.in-Accepted.is in record {
-      record_bytes_least_bound = a.few;
-      records_in_bounds = a.room;
-      n_le_servers = a.seats;
-    }
+  record_bytes_least_bound = a.few;
+  records_in_bounds = a.room;
+  n_le_servers = a.seats;
+}
 
 pub shape_of-answers-in-Accepted : goal.shape_of-answers-in-Accepted
 shape_of-answers-in-Accepted c = c.run-ran.auto.answers

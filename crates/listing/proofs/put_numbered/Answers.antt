@@ -1,7 +1,6 @@
 use native.Mathlib.Omega.{arith}
 use Rattle.writing.proofs.Decimals.{ten_digits}
 use Rattle.writing.proofs.Placing.{then}
-use borrow.Author.Rules.{rules}
 use Rattle.listing.proofs.put_numbered.Goals as goal
 
 pub returns : goal.returns

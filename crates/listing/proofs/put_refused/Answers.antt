@@ -1,6 +1,5 @@
 use native.Mathlib.Omega.{arith}
 use Rattle.writing.proofs.Placing.{then}
-use borrow.Author.Rules.{rules}
 use Rattle.listing.proofs.put_refused.Goals as goal
 
 pub returns : goal.returns

@@ -1,8 +1,6 @@
-use mathlib.Core.Path.{◌≡◌}
-use borrow.Author.Rules.{rules}
-use Prim.Native.Nat.{ℕ, ◌-◌, ◌<◌}
+use Prim.Native.Nat.{◌<◌}
 use native.Mathlib.Omega.{arith}
-use Rattle.search.proofs.Laws.{Held, held_none, held_all, held_tested, held_failed}
+use Rattle.search.proofs.Laws.{held_none, held_all, held_tested, held_failed}
 use Rattle.protocol.specs.Quiet.{server_quiet, quiet}
 use Rattle.world.proofs.Seats.{seat_own}
 use Rattle.quiet.proofs.quiet.Goals as goal

@@ -1,10 +1,6 @@
-use mathlib.Core.Path.{◌≡◌}
-use borrow.Author.Rules.{rules}
-use Prim.Native.Nat.{ℕ, ◌-◌, ◌<◌}
-use native.Mathlib.Omega.{arith}
-use Rattle.search.proofs.Laws.{Held, held_none, held_all, held_tested, held_failed}
-use Rattle.protocol.specs.Quiet.{server_quiet, quiet}
-use Rattle.world.proofs.Seats.{seat_own}
+use Prim.Native.Nat.{ℕ, ◌-◌}
+use Rattle.search.proofs.Laws.{Held}
+use Rattle.protocol.specs.Quiet.{server_quiet}
 use Rattle.quiet.proofs.quiet.Given as goal
 
 abbrev pub invariant-loop-s : goal.invariant-loop-s

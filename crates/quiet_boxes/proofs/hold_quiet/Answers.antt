@@ -1,13 +1,10 @@
 use Rattle.world.proofs.Seats.{seated}
-use borrow.Author.Rules.{rules}
-use Prim.Native.Nat.{ℕ, ◌-◌}
 use native.Mathlib.Omega.{arith}
 use mathlib.Core.Bool.{not}
 use mathlib.Core.Path.{sym, ap, ◌∙◌}
-use Rattle.search.proofs.Laws.{Held, held_none, held_more, held_not, held_all}
+use Rattle.search.proofs.Laws.{held_none, held_more, held_not, held_all}
 use Rattle.world.specs.Hold.{entry_at}
-use Rattle.protocol.specs.Names.{table_of}
-use Rattle.protocol.specs.Quiet.{stirs, hold_quiet}
+use Rattle.protocol.specs.Quiet.{hold_quiet}
 use Rattle.quiet_boxes.proofs.hold_quiet.Goals as goal
 
 pub loop-k-init : goal.loop-k-init

@@ -1,12 +1,9 @@
-use Rattle.world.proofs.Seats.{seated}
-use borrow.Author.Rules.{rules}
 use Prim.Native.Nat.{ℕ, ◌-◌}
-use native.Mathlib.Omega.{arith}
 use mathlib.Core.Bool.{not}
-use Rattle.search.proofs.Laws.{Held, held_none, held_more, held_not, held_all}
+use Rattle.search.proofs.Laws.{Held}
 use Rattle.world.specs.Hold.{entry_at}
 use Rattle.protocol.specs.Names.{table_of}
-use Rattle.protocol.specs.Quiet.{stirs, hold_quiet}
+use Rattle.protocol.specs.Quiet.{stirs}
 use Rattle.quiet_boxes.proofs.hold_quiet.Given as goal
 
 abbrev pub invariant-loop-k : goal.invariant-loop-k

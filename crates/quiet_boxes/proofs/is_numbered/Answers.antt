@@ -3,7 +3,6 @@ use Rattle.search.specs.declared.Found.{Found}
 use mathlib.Core.Path.{sym, ap, ◌∙◌}
 use Rattle.protocol.specs.Quiet.{is_numbered}
 use Rattle.protocol.proofs.Naming.{own_in}
-use borrow.Author.Rules.{rules}
 use Rattle.quiet_boxes.proofs.is_numbered.Goals as goal
 
 pub returns-in_default : goal.returns-in_default

@@ -1,11 +1,7 @@
 use mathlib.Core.Path.{ap}
-use borrow.Author.Rules.{rules}
-use Prim.Native.Nat.{ℕ, ◌-◌}
 use native.Mathlib.Omega.{arith}
-use mathlib.Core.Bool.{not, ◌&&◌}
-use Rattle.search.proofs.Laws.{Held, held_none, held_more, held_not, held_all}
-use Rattle.world.specs.Roster.{correct}
-use Rattle.world.specs.Outgoing.{packet_at}
+use mathlib.Core.Bool.{not}
+use Rattle.search.proofs.Laws.{held_none, held_more, held_not, held_all}
 use Rattle.protocol.specs.Quiet.{outgoing_quiet}
 use Rattle.quiet_boxes.proofs.outgoing_quiet.Goals as goal
 

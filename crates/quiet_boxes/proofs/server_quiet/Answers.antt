@@ -1,4 +1,3 @@
-use borrow.Author.Rules.{rules}
 use Rattle.quiet_boxes.proofs.server_quiet.Goals as goal
 
 pub returns : goal.returns

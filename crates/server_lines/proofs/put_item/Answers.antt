@@ -1,7 +1,6 @@
 use Rattle.writing.proofs.Decimals.{three_digits, five_digits}
 use native.Mathlib.Omega.{arith}
 use Rattle.writing.proofs.Placing.{then}
-use borrow.Author.Rules.{rules}
 use Rattle.server_lines.proofs.put_item.Goals as goal
 
 pub returns : goal.returns

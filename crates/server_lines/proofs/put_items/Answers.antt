@@ -1,11 +1,7 @@
-use Rattle.protocol.specs.Longest.{item_most}
 use borrow.Author.Rules.{rules}
-use Prim.Native.Nat.{◌+◌, ◌-◌, ◌*◌, ◌≤◌}
 use native.Mathlib.Omega.{arith}
 use mathlib.Core.Path.{◌≡◌, refl}
-use lib.ListN.{length, take}
-use Rattle.writing.specs.Writing.{Wrote}
-use Rattle.protocol.specs.Listing.{item_texts}
+use lib.ListN.{length}
 use Rattle.writing.proofs.Placing.{wrote_length}
 use Rattle.server_lines.proofs.Rows.{items_none, items_more, items_all}
 use Rattle.server_lines.proofs.put_items.Goals as goal

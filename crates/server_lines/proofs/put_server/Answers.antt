@@ -2,7 +2,6 @@ use Rattle.writing.proofs.Decimals.{three_digits, ten_digits}
 use mathlib.Core.Path.{sym, ◌∙◌}
 use native.Mathlib.Omega.{arith}
 use Rattle.writing.proofs.Placing.{then}
-use borrow.Author.Rules.{rules}
 use Rattle.server_lines.proofs.put_server.Goals as goal
 
 pub returns-then-is_faulty : goal.returns-then-is_faulty

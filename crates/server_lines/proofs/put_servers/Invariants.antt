@@ -1,11 +1,7 @@
 use Rattle.protocol.specs.Longest.{server_most}
-use Rattle.server_lines.proofs.Rows.{servers_none, servers_more, servers_all}
-use borrow.Author.Rules.{rules}
 use Prim.Native.Nat.{◌+◌, ◌-◌, ◌*◌, ◌≤◌}
-use native.Mathlib.Omega.{arith}
 use Rattle.writing.specs.Writing.{Wrote}
 use Rattle.protocol.specs.Listing.{server_lines}
-use Rattle.writing.proofs.Placing.{wrote_length}
 use Rattle.server_lines.proofs.put_servers.Given as goal
 
 abbrev pub invariant-loop-s : goal.invariant-loop-s

@@ -1,5 +1,4 @@
 use Rattle.protocol.specs.Sound.{execution_sound}
-use borrow.Author.Rules.{rules}
 use Rattle.sound_executions.proofs.execution_sound.Goals as goal
 
 pub returns : goal.returns

@@ -1,4 +1,3 @@
-use borrow.Author.Rules.{rules}
 use borrow.Author.Tests.{le-leb, lt-leb}
 use Rattle.protocol.specs.Sound.{executions_sound}
 use Rattle.sound_executions.proofs.executions_sound.Goals as goal

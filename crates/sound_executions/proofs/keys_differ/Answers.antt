@@ -1,8 +1,5 @@
-use borrow.Author.Rules.{rules}
-use Prim.Native.Nat.{ℕ, ◌-◌}
 use native.Mathlib.Omega.{arith}
-use Rattle.search.proofs.Laws.{Held, held_none, held_all, held_tested, held_failed}
-use Rattle.protocol.specs.Sound.{new_id}
+use Rattle.search.proofs.Laws.{held_none, held_all, held_tested, held_failed}
 use Rattle.sound_executions.proofs.keys_differ.Goals as goal
 
 pub loop-k-init : goal.loop-k-init

@@ -1,9 +1,6 @@
-use borrow.Author.Rules.{rules}
-use Prim.Native.Nat.{ℕ, ◌-◌}
 use native.Mathlib.Omega.{arith}
-use Rattle.search.proofs.Laws.{Held, held_none, held_all, held_tested, held_failed}
+use Rattle.search.proofs.Laws.{held_none, held_all, held_tested, held_failed}
 use mathlib.Core.Bool.{not, ◌||◌}
-use Rattle.world.specs.Masks.{has}
 use Rattle.protocol.specs.Sound.{lies_within}
 use Rattle.sound_executions.proofs.lies_within.Goals as goal
 

@@ -1,10 +1,7 @@
-use borrow.Author.Rules.{rules}
 use Prim.Native.Nat.{ℕ, ◌-◌}
-use native.Mathlib.Omega.{arith}
-use Rattle.search.proofs.Laws.{Held, held_none, held_all, held_tested, held_failed}
+use Rattle.search.proofs.Laws.{Held}
 use mathlib.Core.Bool.{not, ◌||◌}
 use Rattle.world.specs.Masks.{has}
-use Rattle.protocol.specs.Sound.{lies_within}
 use Rattle.sound_executions.proofs.lies_within.Given as goal
 
 abbrev pub invariant-loop-i : goal.invariant-loop-i

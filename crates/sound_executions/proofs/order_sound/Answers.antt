@@ -1,6 +1,5 @@
 use borrow.Author.Tests.{eq-eqb, ne_eqb}
 use Rattle.protocol.specs.Sound.{order_sound}
-use borrow.Author.Rules.{rules}
 use Rattle.sound_executions.proofs.order_sound.Goals as goal
 
 pub returns-then-x-eq-UNNUMBERED : goal.returns-then-x-eq-UNNUMBERED

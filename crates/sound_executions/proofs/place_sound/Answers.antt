@@ -1,6 +1,5 @@
 use borrow.Author.Tests.{lt-ltb, le-ltb}
 use Rattle.protocol.specs.Sound.{place_sound}
-use borrow.Author.Rules.{rules}
 use Rattle.sound_executions.proofs.place_sound.Goals as goal
 
 pub returns-then-k-made : goal.returns-then-k-made

@@ -1,8 +1,8 @@
 use borrow.Author.Rules.{rules}
 use mathlib.Core.Path.{◌≡◌}
-use Prim.Native.Nat.{ℕ, ◌-◌, ◌/◌, ◌≤◌, ◌<◌}
+use Prim.Native.Nat.{ℕ, ◌/◌, ◌<◌}
 use native.Mathlib.Omega.{arith}
-use lib.ListN.{length, get_or, length-set}
+use lib.ListN.{length-set}
 use Rattle.protocol.specs.Sound.{number_at}
 use Rattle.sound_numbers.proofs.Filled.{filled_more}
 use Rattle.world.proofs.Seats.{seat_own}

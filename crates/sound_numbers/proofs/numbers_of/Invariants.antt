@@ -1,11 +1,7 @@
-use borrow.Author.Rules.{rules}
 use mathlib.Core.Path.{◌≡◌}
-use Prim.Native.Nat.{ℕ, ◌-◌, ◌/◌, ◌≤◌, ◌<◌}
-use native.Mathlib.Omega.{arith}
-use lib.ListN.{length, get_or, length-set}
+use Prim.Native.Nat.{ℕ, ◌-◌, ◌≤◌, ◌<◌}
+use lib.ListN.{length, get_or}
 use Rattle.protocol.specs.Sound.{number_at}
-use Rattle.sound_numbers.proofs.Filled.{filled_more}
-use Rattle.world.proofs.Seats.{seat_own}
 use Rattle.sound_numbers.proofs.numbers_of.Given as goal
 
 abbrev pub invariant-loop-i : goal.invariant-loop-i

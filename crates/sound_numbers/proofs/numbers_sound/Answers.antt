@@ -1,7 +1,6 @@
 use Rattle.protocol.specs.Sound.{number_at, numbers_sound}
 use Rattle.sound_numbers.proofs.Filled.{filled_once}
-use borrow.Author.Rules.{rules}
-use Prim.Native.Nat.{ℕ, ◌-◌, ◌+◌, ◌<◌, ◌≤◌}
+use Prim.Native.Nat.{ℕ, ◌+◌, ◌<◌, ◌≤◌}
 use mathlib.Core.List.{List}
 use Rattle.world.specs.declared.execution.Executions.{Executions}
 use native.Mathlib.Omega.{arith}
@@ -10,7 +9,7 @@ use borrow.Author.Tests.{le-leb, lt-leb}
 use lib.Dec.{eqb}
 use lib.ListN.{get_or}
 use Rattle.search.specs.Search.{every, count}
-use Rattle.search.proofs.Laws.{Held, held_none, held_all, held_tested, held_failed}
+use Rattle.search.proofs.Laws.{held_none, held_all, held_tested, held_failed}
 use Rattle.sound_numbers.proofs.numbers_sound.Goals as goal
 
 -- the numbers that were taken out are those of the executions

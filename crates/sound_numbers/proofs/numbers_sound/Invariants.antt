@@ -1,14 +1,8 @@
-use Rattle.protocol.specs.Sound.{number_at, numbers_sound}
-use Rattle.sound_numbers.proofs.Filled.{filled_once}
-use borrow.Author.Rules.{rules}
 use Prim.Native.Nat.{ℕ, ◌-◌, ◌+◌}
-use native.Mathlib.Omega.{arith}
-use mathlib.Core.Path.{◌≡◌, ap, ◌∙◌}
-use borrow.Author.Tests.{le-leb, lt-leb}
 use lib.Dec.{eqb}
 use lib.ListN.{get_or}
-use Rattle.search.specs.Search.{every, count}
-use Rattle.search.proofs.Laws.{Held, held_none, held_all, held_tested, held_failed}
+use Rattle.search.specs.Search.{count}
+use Rattle.search.proofs.Laws.{Held}
 use Rattle.sound_numbers.proofs.numbers_sound.Given as goal
 
 abbrev pub invariant-loop-k : goal.invariant-loop-k

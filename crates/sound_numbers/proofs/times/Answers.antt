@@ -1,12 +1,7 @@
 use borrow.Author.Rules.{rules}
 use mathlib.Core.Path.{◌≡◌, sym}
-use mathlib.Core.Logic.{⊎_elim}
-use Prim.Native.Nat.{ℕ, ◌-◌, ◌≤◌}
 use native.Mathlib.Omega.{arith}
 use borrow.Author.Tests.{eq-eqb, ne_eqb}
-use lib.Dec.{eqb}
-use lib.ListN.{get_or}
-use Rattle.search.specs.Search.{count}
 use Rattle.search.proofs.Laws.{count_none, counted_yes, counted_no}
 use Rattle.sound_numbers.proofs.times.Goals as goal
 use Rattle.sound_numbers.proofs.times.Goals.{then-numbers-i, else-numbers-i}
@@ -18,8 +13,9 @@ pub loop-i-preserved : goal.loop-i-preserved
 loop-i-preserved c =
     let e = c.loop-i.invariant.1.1 in
     elim c.if-numbers-i.branch [
-    then-numbers-i w ↦ (omega arith, (omega arith, counted_yes _ _ _ _ e (eq-eqb _ _ w.if-numbers-i.true) w.n-is)) |
-    else-numbers-i w ↦ (omega arith, (omega arith, counted_no _ _ _ _ e (ne_eqb _ _ w.if-numbers-i.false) w.n-is)) ]
+      | then-numbers-i w ↦ (omega arith, (omega arith, counted_yes _ _ _ _ e (eq-eqb _ _ w.if-numbers-i.true) w.n-is))
+      | else-numbers-i w ↦ (omega arith, (omega arith, counted_no _ _ _ _ e (ne_eqb _ _ w.if-numbers-i.false) w.n-is))
+    ]
 
 pub returns : goal.returns
 returns c = let e : c.loop-i.i ≡ 128 = omega arith in rw e at c.loop-i.invariant.1.1

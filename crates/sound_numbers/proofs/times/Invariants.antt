@@ -1,13 +1,8 @@
-use borrow.Author.Rules.{rules}
-use mathlib.Core.Path.{◌≡◌, sym}
-use mathlib.Core.Logic.{⊎_elim}
+use mathlib.Core.Path.{◌≡◌}
 use Prim.Native.Nat.{ℕ, ◌-◌, ◌≤◌}
-use native.Mathlib.Omega.{arith}
-use borrow.Author.Tests.{eq-eqb, ne_eqb}
 use lib.Dec.{eqb}
 use lib.ListN.{get_or}
 use Rattle.search.specs.Search.{count}
-use Rattle.search.proofs.Laws.{count_none, counted_yes, counted_no}
 use Rattle.sound_numbers.proofs.times.Given as goal
 
 abbrev pub invariant-loop-i : goal.invariant-loop-i

@@ -1,10 +1,7 @@
-use borrow.Author.Rules.{rules}
-use Prim.Native.Nat.{ℕ, ◌-◌}
 use native.Mathlib.Omega.{arith}
 use mathlib.Core.Path.{sym, ap, ◌∙◌}
 use mathlib.Core.Bool.{not}
-use Rattle.search.proofs.Laws.{Held, held_none, held_more, held_not, held_all}
-use Rattle.world.specs.Requests.{request_at, same_digest}
+use Rattle.search.proofs.Laws.{held_none, held_more, held_not, held_all}
 use Rattle.protocol.specs.Sound.{new_digest}
 use Rattle.sound_requests.proofs.new_digest.Goals as goal
 

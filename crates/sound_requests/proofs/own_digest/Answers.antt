@@ -5,7 +5,6 @@ use lib.ListN.{length}
 use Rattle.fips180.specs.Sha256.{digest_of}
 use Rattle.fips180.specs.declared.Digest.{Digest}
 use Rattle.digest.proofs.Short.{short_digest}
-use borrow.Author.Rules.{rules}
 use Rattle.sound_requests.proofs.own_digest.Goals as goal
 
 pub returns : goal.returns

@@ -1,6 +1,5 @@
 use borrow.Author.Tests.{le-leb, lt-leb}
 use Rattle.protocol.specs.Sound.{requests_sound}
-use borrow.Author.Rules.{rules}
 use Rattle.sound_requests.proofs.requests_sound.Goals as goal
 
 pub returns-then-q-gt-MOST : goal.returns-then-q-gt-MOST

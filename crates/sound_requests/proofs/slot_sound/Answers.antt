@@ -1,6 +1,5 @@
 use borrow.Author.Tests.{lt-ltb, le-ltb}
 use Rattle.protocol.specs.Sound.{slot_sound}
-use borrow.Author.Rules.{rules}
 use Rattle.sound_requests.proofs.slot_sound.Goals as goal
 
 pub returns-then-k-stored : goal.returns-then-k-stored

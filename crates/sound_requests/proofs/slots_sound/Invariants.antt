@@ -1,7 +1,5 @@
-use borrow.Author.Rules.{rules}
 use Prim.Native.Nat.{ℕ, ◌-◌}
-use native.Mathlib.Omega.{arith}
-use Rattle.search.proofs.Laws.{Held, held_none, held_all, held_tested, held_failed}
+use Rattle.search.proofs.Laws.{Held}
 use Rattle.world.specs.Requests.{request_at}
 use Rattle.protocol.specs.Sound.{slot_sound}
 use Rattle.sound_requests.proofs.slots_sound.Given as goal

@@ -1,5 +1,4 @@
 use Rattle.protocol.specs.Sound.{stored_sound}
-use borrow.Author.Rules.{rules}
 use Rattle.sound_requests.proofs.stored_sound.Goals as goal
 
 pub returns : goal.returns

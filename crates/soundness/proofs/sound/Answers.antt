@@ -1,5 +1,4 @@
 use Rattle.protocol.specs.Sound.{sound}
-use borrow.Author.Rules.{rules}
 use Rattle.soundness.proofs.sound.Goals as goal
 
 pub returns : goal.returns

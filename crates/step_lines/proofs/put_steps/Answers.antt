@@ -1,11 +1,6 @@
-use Rattle.protocol.specs.Longest.{step_most}
 use borrow.Author.Rules.{rules}
-use Prim.Native.Nat.{◌+◌, ◌-◌, ◌*◌, ◌≤◌}
 use native.Mathlib.Omega.{arith}
 use mathlib.Core.Path.{◌≡◌}
-use lib.ListN.{take}
-use Rattle.writing.specs.Writing.{Wrote}
-use Rattle.protocol.specs.Listing.{step_lines}
 use Rattle.writing.proofs.Placing.{wrote_length}
 use Rattle.step_lines.proofs.Rows.{steps_none, steps_more}
 use Rattle.step_lines.proofs.put_steps.Goals as goal

@@ -2,7 +2,6 @@ use Rattle.writing.proofs.Decimals.{three_digits, five_digits, ten_digits}
 use native.Mathlib.Omega.{arith}
 use mathlib.Core.Path.{◌∙◌}
 use Rattle.writing.proofs.Placing.{then, wrote_length}
-use borrow.Author.Rules.{rules}
 use Rattle.step_lines.proofs.put_world.Goals as goal
 
 pub put_number-at-requires-4 : goal.put_number-at-requires-4

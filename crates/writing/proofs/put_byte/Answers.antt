@@ -1,5 +1,4 @@
 use Rattle.writing.proofs.Placing.{wrote_out}
-use borrow.Author.Rules.{rules}
 use Rattle.writing.proofs.put_byte.Goals as goal
 
 pub returns-then-text-at : goal.returns-then-text-at

@@ -1,7 +1,4 @@
-use Rattle.writing.proofs.Placing.{wrote_first, wrote_more, wrote_whole, wrote_length}
-use borrow.Author.Rules.{rules}
 use Prim.Native.Nat.{◌+◌, ◌-◌, ◌≤◌}
-use native.Mathlib.Omega.{arith}
 use lib.ListN.{length, take}
 use Rattle.writing.specs.Writing.{Wrote}
 use Rattle.writing.proofs.put_word.Given as goal

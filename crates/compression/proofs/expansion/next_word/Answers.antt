@@ -1,5 +1,4 @@
 use Rattle.fips180.specs.Sha256.{next_word}
-use Rattle.std.proofs.Common.{rules}
 use Rattle.compression.proofs.expansion.next_word.Goals as goal
 
 pub returns : goal.returns

@@ -1,5 +1,4 @@
 use Rattle.fips180.specs.Sha256.{state_bytes}
-use Rattle.std.proofs.Common.{rules}
 use Rattle.compression.proofs.state.bytes.Goals as goal
 
 pub returns : goal.returns

@@ -1,5 +1,4 @@
 use Rattle.fips180.specs.Sha256.{compressed}
-use Rattle.std.proofs.Common.{rules}
 use Rattle.compression.proofs.state.compress.Goals as goal
 
 pub returns : goal.returns

@@ -1,5 +1,4 @@
 use Rattle.compression.proofs.Words.{put_four}
-use Rattle.std.proofs.Common.{rules}
 use Rattle.compression.proofs.state.put4.Goals as goal
 
 pub returns : goal.returns

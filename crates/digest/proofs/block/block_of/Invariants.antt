@@ -1,12 +1,7 @@
-use borrow.Author.Rules.{rules}
-use mathlib.Core.Path.{◌≡◌, refl, sym, ◌∙◌}
+use mathlib.Core.Path.{◌≡◌}
 use Prim.Native.Nat.{◌-◌, ◌*◌, ◌≤◌}
-use native.Mathlib.Omega.{arith}
-use lib.ListN.{length, take, drop, length-set}
-use lib.Seq.{take_all}
+use lib.ListN.{length, take, drop}
 use Rattle.fips180.specs.Sha256.{block_bytes, padded}
-use Rattle.search.proofs.Filling.{copied}
-use Rattle.digest.proofs.Padding.{length_padded, whole_blocks}
 use Rattle.digest.proofs.block.block_of.Given as goal
 
 abbrev pub invariant-loop-j : goal.invariant-loop-j

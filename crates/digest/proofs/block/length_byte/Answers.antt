@@ -1,7 +1,6 @@
 use Prim.Native.Nat.{◌-◌, ◌*◌, ◌/◌, ◌^◌}
 use lib.Bits.{mask_lt}
 use Rattle.digest.proofs.Padding.{masked}
-use borrow.Author.Rules.{rules}
 use Rattle.digest.proofs.block.length_byte.Goals as goal
 
 pub overflow_cast-result : goal.overflow_cast-result

@@ -1,7 +1,6 @@
 use mathlib.Core.Path.{◌∙◌}
 use native.Mathlib.Omega.{arith}
 use Rattle.digest.proofs.Padding.{in_message, at_mark, in_zeros, in_length, length_padded}
-use borrow.Author.Rules.{rules}
 use Rattle.digest.proofs.block.padded_byte.Goals as goal
 
 pub returns-then-p-n : goal.returns-then-p-n

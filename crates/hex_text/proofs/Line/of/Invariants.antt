@@ -1,10 +1,7 @@
-use borrow.Author.Rules.{rules}
-use mathlib.Core.Path.{◌≡◌, refl, ◌∙◌}
-use Prim.Native.Nat.{◌+◌, ◌-◌, ◌*◌, ◌≤◌}
-use native.Mathlib.Omega.{arith}
-use lib.ListN.{length, get_or, take, length-set}
+use mathlib.Core.Path.{◌≡◌}
+use Prim.Native.Nat.{◌-◌, ◌*◌, ◌≤◌}
+use lib.ListN.{length, get_or, take}
 use Rattle.hex_text.specs.Hex.{hex_digits}
-use Rattle.hex_text.proofs.Digits.{more_digits, with_last, kept_behind}
 use Rattle.hex_text.proofs.Line.of.Given as goal
 
 abbrev pub invariant-loop-i : goal.invariant-loop-i

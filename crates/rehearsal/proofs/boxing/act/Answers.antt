@@ -1,4 +1,3 @@
-use borrow.Author.Rules.{rules}
 use Rattle.rehearsal.proofs.boxing.act.Goals as goal
 
 pub returns-in-Multicast : goal.returns-in-Multicast

@@ -1,4 +1,3 @@
-use mathlib.Core.Path.{◌≡◌}
 use native.Mathlib.Omega.{arith}
 use borrow.Author.Tests.{lt-ltb, le-ltb}
 use Rattle.rehearsal.proofs.boxing.seat_of.Goals as goal

@@ -1,19 +1,13 @@
 use Rattle.format.specs.Records.{asked}
-use borrow.Author.Rules.{rules}
-use mathlib.Core.Path.{◌≡◌, refl, sym, ap, ◌∙◌}
-use Prim.Native.Nat.{ℕ, ◌+◌, ◌-◌, ◌≤◌}
+use mathlib.Core.Path.{◌≡◌, sym, ◌∙◌}
 use native.Mathlib.Omega.{arith}
 use borrow.Author.Tests.{le-leb, lt-leb}
 use lib.ListN.{length}
 use Rattle.search.specs.Tests.{must}
-use Rattle.protocol.specs.Answers.{answer_code}
 use Rattle.format.specs.Records.{read_at}
-use Rattle.format.specs.Judging.{judged}
-use Rattle.format.specs.declared.verdict.Verdict.TheVariants.{Accepted}
 use Rattle.format.proofs.Reader.{known, is_record, no_record}
-use Rattle.protocol.specs.Steps.{step_of}
-use Rattle.protocol.specs.Runs.{start_world, ran_of, written_of}
-use Rattle.rehearsal.proofs.Going.{Going, going_start, going_room, going_on, going_end, store_turn, act_turn}
+use Rattle.protocol.specs.Runs.{ran_of, written_of}
+use Rattle.rehearsal.proofs.Going.{going_start, going_room, going_on, going_end, store_turn, act_turn}
 use Rattle.format.proofs.Judged.{accepted_means}
 use Rattle.rehearsal.proofs.running.run.Goals as goal
 

@@ -1,20 +1,7 @@
-use Rattle.format.specs.Records.{asked}
-use borrow.Author.Rules.{rules}
-use mathlib.Core.Path.{◌≡◌, refl, sym, ap, ◌∙◌}
-use Prim.Native.Nat.{ℕ, ◌+◌, ◌-◌, ◌≤◌}
-use native.Mathlib.Omega.{arith}
-use borrow.Author.Tests.{le-leb, lt-leb}
+use Prim.Native.Nat.{◌+◌, ◌-◌}
 use lib.ListN.{length}
-use Rattle.search.specs.Tests.{must}
-use Rattle.protocol.specs.Answers.{answer_code}
-use Rattle.format.specs.Records.{read_at}
-use Rattle.format.specs.Judging.{judged}
-use Rattle.format.specs.declared.verdict.Verdict.TheVariants.{Accepted}
-use Rattle.format.proofs.Reader.{known, is_record, no_record}
-use Rattle.protocol.specs.Steps.{step_of}
-use Rattle.protocol.specs.Runs.{start_world, ran_of, written_of}
-use Rattle.rehearsal.proofs.Going.{Going, going_start, going_room, going_on, going_end, store_turn, act_turn}
-use Rattle.format.proofs.Judged.{accepted_means}
+use Rattle.protocol.specs.Runs.{start_world}
+use Rattle.rehearsal.proofs.Going.{Going}
 use Rattle.rehearsal.proofs.running.run.Given as goal
 
 abbrev pub invariant-loop-kind : goal.invariant-loop-kind

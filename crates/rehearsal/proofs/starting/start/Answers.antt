@@ -1,7 +1,6 @@
 use Rattle.search.specs.Tests.{must}
 use Rattle.search.proofs.Booleans.{not_out, not_no}
 use Rattle.protocol.specs.Runs.{start_of}
-use borrow.Author.Rules.{rules}
 use Rattle.rehearsal.proofs.starting.start.Goals as goal
 
 pub returns-then-not-is_good : goal.returns-then-not-is_good

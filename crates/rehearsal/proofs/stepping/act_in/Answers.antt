@@ -1,7 +1,6 @@
 use Rattle.format.specs.declared.kinds.Kind.TheVariants.{Act}
 use mathlib.Core.Path.{refl}
 use Rattle.rehearsal.proofs.Going.{act_turn}
-use borrow.Author.Rules.{rules}
 use Rattle.rehearsal.proofs.stepping.act_in.Goals as goal
 
 pub returns : goal.returns

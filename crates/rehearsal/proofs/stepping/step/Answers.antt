@@ -3,8 +3,7 @@ use Rattle.format.proofs.Reader.{known, only_end}
 use Rattle.rehearsal.proofs.Public.{unsound, no_bytes, no_record, one_record}
 use Rattle.search.proofs.Booleans.{not_out, not_no}
 use native.Mathlib.Omega.{arith}
-use mathlib.Core.Path.{◌≡◌, sym, ◌∙◌}
-use borrow.Author.Rules.{rules}
+use mathlib.Core.Path.{sym, ◌∙◌}
 use Rattle.rehearsal.proofs.stepping.step.Goals as goal
 
 pub returns-then-not-sound : goal.returns-then-not-sound

@@ -1,7 +1,6 @@
 use Rattle.format.specs.declared.kinds.Kind.TheVariants.{Request}
 use mathlib.Core.Path.{refl}
 use Rattle.rehearsal.proofs.Going.{store_turn}
-use borrow.Author.Rules.{rules}
 use Rattle.rehearsal.proofs.stepping.store_in.Goals as goal
 
 pub returns : goal.returns

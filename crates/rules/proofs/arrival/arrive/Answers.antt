@@ -1,8 +1,6 @@
-use mathlib.Core.Path.{◌≡◌, sym, ap, ◌∙◌}
 use Rattle.search.proofs.Booleans.{not_out, not_no}
 use Rattle.search.specs.Tests.{must}
 use Rattle.protocol.specs.Rules.{arrive_of}
-use borrow.Author.Rules.{rules}
 use Rattle.rules.proofs.arrival.arrive.Goals as goal
 
 pub returns-then-not-member : goal.returns-then-not-member

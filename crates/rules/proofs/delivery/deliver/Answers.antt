@@ -1,11 +1,8 @@
-use mathlib.Core.Path.{◌≡◌, sym, ap, ◌∙◌}
 use Rattle.search.proofs.Booleans.{not_out, not_no}
 use Rattle.search.specs.Tests.{must}
-use Prim.Native.Nat.{◌<◌}
 use native.Mathlib.Omega.{arith}
 use Rattle.search.proofs.Laws.{found_in}
 use Rattle.protocol.specs.Rules.{deliver_of, deliver_found}
-use borrow.Author.Rules.{rules}
 use Rattle.rules.proofs.delivery.deliver.Goals as goal
 
 pub returns-then-not-member : goal.returns-then-not-member

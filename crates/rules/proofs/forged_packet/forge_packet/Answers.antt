@@ -1,10 +1,8 @@
-use mathlib.Core.Path.{◌≡◌, sym, ap, ◌∙◌}
 use Rattle.search.proofs.Booleans.{not_out, not_no}
 use Rattle.search.specs.Tests.{must}
 use mathlib.Core.Bool.{◌&&◌}
 use borrow.Author.Tests.{lt-ltb, le-ltb}
 use Rattle.protocol.specs.Rules.{forge_packet_of}
-use borrow.Author.Rules.{rules}
 use Rattle.rules.proofs.forged_packet.forge_packet.Goals as goal
 
 pub returns-then-not-member : goal.returns-then-not-member

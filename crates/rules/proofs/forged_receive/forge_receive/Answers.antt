@@ -1,10 +1,8 @@
-use mathlib.Core.Path.{◌≡◌, sym, ap, ◌∙◌}
 use Rattle.search.proofs.Booleans.{not_out, not_no}
 use Rattle.search.specs.Tests.{must}
 use mathlib.Core.Bool.{◌&&◌}
 use Rattle.search.proofs.Laws.{found_in}
 use Rattle.protocol.specs.Rules.{forge_receive_of, forge_receive_found}
-use borrow.Author.Rules.{rules}
 use Rattle.rules.proofs.forged_receive.forge_receive.Goals as goal
 
 pub returns-then-not-member : goal.returns-then-not-member

@@ -1,10 +1,7 @@
-use mathlib.Core.Path.{◌≡◌, sym, ap, ◌∙◌}
 use Rattle.search.proofs.Booleans.{not_out, not_no}
 use Rattle.search.specs.Tests.{must}
 use borrow.Author.Tests.{lt-ltb, le-ltb}
-use native.Mathlib.Omega.{arith}
 use Rattle.protocol.specs.Rules.{forge_send_of}
-use borrow.Author.Rules.{rules}
 use Rattle.rules.proofs.forged_send.forge_send.Goals as goal
 
 pub returns-then-not-member : goal.returns-then-not-member

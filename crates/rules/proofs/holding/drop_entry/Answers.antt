@@ -1,4 +1,3 @@
-use borrow.Author.Rules.{rules}
 use Rattle.rules.proofs.holding.drop_entry.Goals as goal
 
 pub returns : goal.returns

@@ -1,5 +1,4 @@
 use Rattle.protocol.specs.Rules.{made}
-use borrow.Author.Rules.{rules}
 use Rattle.rules.proofs.orderer.make.Goals as goal
 
 pub returns : goal.returns

@@ -1,5 +1,4 @@
 use Rattle.protocol.specs.Rules.{recorded}
-use borrow.Author.Rules.{rules}
 use Rattle.rules.proofs.orderer.record.Goals as goal
 
 pub returns : goal.returns

@@ -1,8 +1,6 @@
-use mathlib.Core.Path.{◌≡◌, sym, ap, ◌∙◌}
 use Rattle.search.proofs.Booleans.{not_out, not_no}
 use Rattle.search.specs.Tests.{must}
 use Rattle.protocol.specs.Rules.{propose_to}
-use borrow.Author.Rules.{rules}
 use Rattle.rules.proofs.proposal.propose_to.Goals as goal
 
 pub returns-then-has : goal.returns-then-has

@@ -1,5 +1,4 @@
 use Rattle.protocol.specs.Rules.{multicast_done}
-use borrow.Author.Rules.{rules}
 use Rattle.rules.proofs.sending.cast.Goals as goal
 
 pub returns : goal.returns

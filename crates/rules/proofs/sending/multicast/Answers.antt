@@ -1,9 +1,7 @@
-use mathlib.Core.Path.{◌≡◌, sym, ap, ◌∙◌}
 use Rattle.search.proofs.Booleans.{not_out, not_no}
 use Rattle.search.specs.Tests.{must}
 use borrow.Author.Tests.{lt-ltb, le-ltb}
 use Rattle.protocol.specs.Rules.{multicast_of}
-use borrow.Author.Rules.{rules}
 use Rattle.rules.proofs.sending.multicast.Goals as goal
 
 pub returns-then-not-member : goal.returns-then-not-member

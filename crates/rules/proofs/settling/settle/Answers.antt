@@ -1,10 +1,8 @@
-use mathlib.Core.Path.{◌≡◌, sym, ap, ◌∙◌}
 use Rattle.search.proofs.Booleans.{not_out, not_no}
 use Rattle.search.specs.Tests.{must}
 use borrow.Author.Tests.{eq-eqb, ne_eqb}
 use Rattle.search.proofs.Laws.{found_in}
 use Rattle.protocol.specs.Rules.{settle_of, settle_found}
-use borrow.Author.Rules.{rules}
 use Rattle.rules.proofs.settling.settle.Goals as goal
 
 pub returns-then-not-member : goal.returns-then-not-member

@@ -1,9 +1,7 @@
-use mathlib.Core.Path.{◌≡◌, sym, ap, ◌∙◌}
 use Rattle.search.proofs.Booleans.{not_out, not_no}
 use Rattle.search.specs.Tests.{must}
 use borrow.Author.Tests.{eq-eqb, ne_eqb, le-leb, lt-leb}
 use Rattle.protocol.specs.Rules.{settle_to}
-use borrow.Author.Rules.{rules}
 use Rattle.rules.proofs.settling.settle_to.Goals as goal
 
 pub returns-then-x-eq-UNNUMBERED : goal.returns-then-x-eq-UNNUMBERED

@@ -1,13 +1,11 @@
 use Rattle.fips180.specs.Sha256.{digest_of}
-use mathlib.Core.Path.{◌≡◌, sym, ap, ◌∙◌}
-use mathlib.Core.List.{List}
-use Prim.Native.Nat.{ℕ, ◌≤◌}
+use mathlib.Core.Path.{ap, ◌∙◌}
+use Prim.Native.Nat.{◌≤◌}
 use native.Mathlib.Omega.{arith}
 use lib.ListN.{length}
 use Rattle.fips180.specs.declared.Digest.{Digest}
 use Rattle.digest.proofs.Short.{short_digest}
 use Rattle.protocol.specs.Rules.{request_from}
-use borrow.Author.Rules.{rules}
 use Rattle.rules.proofs.storing.digested.Goals as goal
 
 pub returns : goal.returns

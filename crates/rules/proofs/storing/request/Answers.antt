@@ -1,9 +1,6 @@
-use mathlib.Core.Path.{◌≡◌, sym, ap, ◌∙◌}
-use Rattle.search.proofs.Booleans.{not_out, not_no}
 use Rattle.search.specs.Tests.{must}
 use borrow.Author.Tests.{lt-ltb, le-ltb}
 use Rattle.protocol.specs.Rules.{request_of}
-use borrow.Author.Rules.{rules}
 use Rattle.rules.proofs.storing.request.Goals as goal
 
 pub returns-then-strays : goal.returns-then-strays

@@ -1,7 +1,6 @@
 use mathlib.Core.Path.{sym}
 use native.Mathlib.Omega.{arith}
 use Rattle.search.proofs.Lists.{get_d_out}
-use borrow.Author.Rules.{rules}
 use Rattle.schedule.proofs.fields.byte_at.Goals as goal
 
 pub returns-else-at-s : goal.returns-else-at-s

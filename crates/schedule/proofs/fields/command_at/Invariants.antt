@@ -1,11 +1,7 @@
-use borrow.Author.Rules.{rules}
-use mathlib.Core.Path.{◌≡◌, refl, sym, ◌∙◌}
+use mathlib.Core.Path.{◌≡◌}
 use Prim.Native.Nat.{◌-◌, ◌≤◌}
-use native.Mathlib.Omega.{arith}
-use lib.ListN.{length, take, length-set}
-use lib.Seq.{take_all}
+use lib.ListN.{length, take}
 use Rattle.format.specs.Fields.{bytes_at}
-use Rattle.schedule.proofs.Past.{bytes_past, more_bytes}
 use Rattle.schedule.proofs.fields.command_at.Given as goal
 
 abbrev pub invariant-loop-i : goal.invariant-loop-i

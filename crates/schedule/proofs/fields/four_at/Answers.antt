@@ -1,5 +1,4 @@
 use Rattle.schedule.proofs.Past.{four_past}
-use borrow.Author.Rules.{rules}
 use Rattle.schedule.proofs.fields.four_at.Goals as goal
 
 pub returns-then-s-at : goal.returns-then-s-at

@@ -1,5 +1,4 @@
 use Rattle.schedule.proofs.Past.{two_past}
-use borrow.Author.Rules.{rules}
 use Rattle.schedule.proofs.fields.two_at.Goals as goal
 
 pub returns-then-s-at : goal.returns-then-s-at

@@ -1,6 +1,5 @@
 use borrow.Author.Tests.{le-leb, lt-leb}
 use Rattle.format.specs.Records.{read_by, read_at}
-use borrow.Author.Rules.{rules}
 use Rattle.schedule.proofs.reading.read_at.Goals as goal
 
 pub returns-then-s-at : goal.returns-then-s-at

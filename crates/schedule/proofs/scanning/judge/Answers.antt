@@ -3,7 +3,6 @@ use Rattle.search.specs.Tests.{must}
 use Rattle.search.proofs.Booleans.{not_out, not_no}
 use Rattle.format.specs.Judging.{judged, records_judged}
 use Rattle.format.proofs.Reader.{no_start, empty_start}
-use borrow.Author.Rules.{rules}
 use Rattle.schedule.proofs.scanning.judge.Goals as goal
 
 pub returns-then-s-gt-MOST : goal.returns-then-s-gt-MOST

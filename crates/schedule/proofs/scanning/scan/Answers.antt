@@ -1,10 +1,6 @@
-use Rattle.format.specs.declared.reading.Read.{Read}
-use borrow.Author.Rules.{rules}
-use mathlib.Core.Path.{◌≡◌, sym, ap, ◌∙◌}
-use Prim.Native.Nat.{◌+◌, ◌-◌}
+use mathlib.Core.Path.{sym, ◌∙◌}
 use native.Mathlib.Omega.{arith}
-use lib.ListN.{length}
-use Rattle.format.proofs.Reader.{Scanning, Known, known, scan_start, scan_on, scan_accepts, scan_refuses, only_end}
+use Rattle.format.proofs.Reader.{known, scan_start, scan_on, scan_accepts, scan_refuses, only_end}
 use Rattle.schedule.proofs.scanning.scan.Goals as goal
 
 pub loop-next-init : goal.loop-next-init

@@ -1,10 +1,6 @@
-use Rattle.format.specs.declared.reading.Read.{Read}
-use borrow.Author.Rules.{rules}
-use mathlib.Core.Path.{◌≡◌, sym, ap, ◌∙◌}
-use Prim.Native.Nat.{◌+◌, ◌-◌}
-use native.Mathlib.Omega.{arith}
+use Prim.Native.Nat.{◌-◌}
 use lib.ListN.{length}
-use Rattle.format.proofs.Reader.{Scanning, Known, known, scan_start, scan_on, scan_accepts, scan_refuses, only_end}
+use Rattle.format.proofs.Reader.{Scanning}
 use Rattle.schedule.proofs.scanning.scan.Given as goal
 
 abbrev pub invariant-loop-next : goal.invariant-loop-next

@@ -1,6 +1,5 @@
 use borrow.Author.Tests.{eq-eqb, ne_eqb}
 use Rattle.protocol.specs.Sound.{entry_sound}
-use borrow.Author.Rules.{rules}
 use Rattle.sound_boxes.proofs.entries.entry_sound.Goals as goal
 
 pub returns-then-e-eq-FREE : goal.returns-then-e-eq-FREE

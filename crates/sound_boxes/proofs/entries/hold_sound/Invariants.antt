@@ -1,11 +1,8 @@
-use Rattle.world.proofs.Seats.{seated}
-use borrow.Author.Rules.{rules}
 use Prim.Native.Nat.{ℕ, ◌-◌}
-use native.Mathlib.Omega.{arith}
-use Rattle.search.proofs.Laws.{Held, held_none, held_all, held_tested, held_failed}
+use Rattle.search.proofs.Laws.{Held}
 use Rattle.world.specs.Hold.{entry_at}
 use Rattle.protocol.specs.Names.{table_of}
-use Rattle.protocol.specs.Sound.{entry_sound, hold_sound}
+use Rattle.protocol.specs.Sound.{entry_sound}
 use Rattle.sound_boxes.proofs.entries.hold_sound.Given as goal
 
 abbrev pub invariant-loop-k : goal.invariant-loop-k

@@ -1,5 +1,4 @@
 use Rattle.protocol.specs.Sound.{delivered_sound}
-use borrow.Author.Rules.{rules}
 use Rattle.sound_boxes.proofs.items.delivered_sound.Goals as goal
 
 pub returns : goal.returns

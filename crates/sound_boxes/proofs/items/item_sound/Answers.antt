@@ -1,6 +1,5 @@
 use borrow.Author.Tests.{lt-ltb, le-ltb}
 use Rattle.protocol.specs.Sound.{item_sound}
-use borrow.Author.Rules.{rules}
 use Rattle.sound_boxes.proofs.items.item_sound.Goals as goal
 
 pub returns-then-k-done : goal.returns-then-k-done

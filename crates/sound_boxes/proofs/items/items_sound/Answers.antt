@@ -1,9 +1,5 @@
-use borrow.Author.Rules.{rules}
-use Prim.Native.Nat.{ℕ, ◌-◌}
 use native.Mathlib.Omega.{arith}
-use Rattle.search.proofs.Laws.{Held, held_none, held_all, held_tested, held_failed}
-use Rattle.world.specs.Boxes.{item_at}
-use Rattle.protocol.specs.Sound.{item_sound}
+use Rattle.search.proofs.Laws.{held_none, held_all, held_tested, held_failed}
 use Rattle.sound_boxes.proofs.items.items_sound.Goals as goal
 
 pub loop-k-init : goal.loop-k-init

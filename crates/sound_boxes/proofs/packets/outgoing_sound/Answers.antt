@@ -1,9 +1,6 @@
-use borrow.Author.Rules.{rules}
-use Prim.Native.Nat.{ℕ, ◌-◌}
 use native.Mathlib.Omega.{arith}
-use Rattle.search.proofs.Laws.{Held, held_none, held_all, held_tested, held_failed}
-use Rattle.world.specs.Outgoing.{packet_at}
-use Rattle.protocol.specs.Sound.{packet_sound, outgoing_sound}
+use Rattle.search.proofs.Laws.{held_none, held_all, held_tested, held_failed}
+use Rattle.protocol.specs.Sound.{outgoing_sound}
 use Rattle.sound_boxes.proofs.packets.outgoing_sound.Goals as goal
 
 pub loop-k-init : goal.loop-k-init

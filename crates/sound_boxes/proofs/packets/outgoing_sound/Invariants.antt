@@ -1,9 +1,7 @@
-use borrow.Author.Rules.{rules}
 use Prim.Native.Nat.{ℕ, ◌-◌}
-use native.Mathlib.Omega.{arith}
-use Rattle.search.proofs.Laws.{Held, held_none, held_all, held_tested, held_failed}
+use Rattle.search.proofs.Laws.{Held}
 use Rattle.world.specs.Outgoing.{packet_at}
-use Rattle.protocol.specs.Sound.{packet_sound, outgoing_sound}
+use Rattle.protocol.specs.Sound.{packet_sound}
 use Rattle.sound_boxes.proofs.packets.outgoing_sound.Given as goal
 
 abbrev pub invariant-loop-k : goal.invariant-loop-k

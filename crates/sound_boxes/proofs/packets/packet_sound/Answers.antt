@@ -1,6 +1,5 @@
 use Rattle.search.proofs.Booleans.{not_out, not_no}
 use Rattle.protocol.specs.Sound.{packet_sound}
-use borrow.Author.Rules.{rules}
 use Rattle.sound_boxes.proofs.packets.packet_sound.Goals as goal
 
 pub returns-then-not-p : goal.returns-then-not-p

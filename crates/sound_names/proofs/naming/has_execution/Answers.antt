@@ -1,6 +1,5 @@
 use mathlib.Core.Path.{sym, ap, ◌∙◌}
 use Rattle.search.specs.Search.{is_found}
-use borrow.Author.Rules.{rules}
 use Rattle.sound_names.proofs.naming.has_execution.Goals as goal
 
 pub returns-in_default : goal.returns-in_default

@@ -1,4 +1,3 @@
-use borrow.Author.Rules.{rules}
 use Rattle.sound_names.proofs.naming.names.Goals as goal
 
 pub returns : goal.returns

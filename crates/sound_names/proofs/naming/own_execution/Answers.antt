@@ -1,5 +1,4 @@
 use borrow.Author.Tests.{lt-ltb, le-ltb}
-use borrow.Author.Rules.{rules}
 use Rattle.sound_names.proofs.naming.own_execution.Goals as goal
 
 pub returns-then-sending-lt-MOST : goal.returns-then-sending-lt-MOST

@@ -1,10 +1,6 @@
-use borrow.Author.Rules.{rules}
-use Prim.Native.Nat.{ℕ, ◌-◌}
 use native.Mathlib.Omega.{arith}
 use borrow.Author.Tests.{eq-eqb, ne_eqb}
-use lib.Dec.{eqb}
-use lib.ListN.{length, get_or}
-use Rattle.search.proofs.Laws.{Held, held_none, held_more, held_not, held_all}
+use Rattle.search.proofs.Laws.{held_none, held_more, held_not, held_all}
 use Rattle.protocol.specs.Zeros.{zero_bytes}
 use Rattle.sound_names.proofs.zeros.zero_bytes.Goals as goal
 

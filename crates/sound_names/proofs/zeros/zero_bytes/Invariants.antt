@@ -1,11 +1,7 @@
-use borrow.Author.Rules.{rules}
 use Prim.Native.Nat.{ℕ, ◌-◌}
-use native.Mathlib.Omega.{arith}
-use borrow.Author.Tests.{eq-eqb, ne_eqb}
 use lib.Dec.{eqb}
 use lib.ListN.{length, get_or}
-use Rattle.search.proofs.Laws.{Held, held_none, held_more, held_not, held_all}
-use Rattle.protocol.specs.Zeros.{zero_bytes}
+use Rattle.search.proofs.Laws.{Held}
 use Rattle.sound_names.proofs.zeros.zero_bytes.Given as goal
 
 abbrev pub invariant-loop-k : goal.invariant-loop-k

@@ -1,5 +1,4 @@
 use Rattle.sound_names.proofs.Typed.{execution_digest}
-use borrow.Author.Rules.{rules}
 use Rattle.sound_names.proofs.zeros.zero_execution.Goals as goal
 
 pub returns : goal.returns

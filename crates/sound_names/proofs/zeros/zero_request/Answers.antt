@@ -1,6 +1,5 @@
 use Rattle.world.proofs.Typed.{request_command}
 use Rattle.sound_names.proofs.Typed.{request_digest}
-use borrow.Author.Rules.{rules}
 use Rattle.sound_names.proofs.zeros.zero_request.Goals as goal
 
 pub returns : goal.returns

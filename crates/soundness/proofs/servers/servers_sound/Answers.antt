@@ -1,9 +1,6 @@
-use mathlib.Core.Path.{◌≡◌}
-use borrow.Author.Rules.{rules}
-use Prim.Native.Nat.{ℕ, ◌-◌, ◌<◌}
+use Prim.Native.Nat.{◌<◌}
 use native.Mathlib.Omega.{arith}
-use Rattle.search.proofs.Laws.{Held, held_none, held_all, held_tested, held_failed}
-use mathlib.Core.Bool.{◌&&◌}
+use Rattle.search.proofs.Laws.{held_none, held_all, held_tested, held_failed}
 use Rattle.protocol.specs.Sound.{server_sound, servers_sound}
 use Rattle.world.proofs.Seats.{seat_own}
 use Rattle.soundness.proofs.servers.servers_sound.Goals as goal

@@ -1,11 +1,6 @@
-use mathlib.Core.Path.{◌≡◌}
-use borrow.Author.Rules.{rules}
-use Prim.Native.Nat.{ℕ, ◌-◌, ◌<◌}
-use native.Mathlib.Omega.{arith}
-use Rattle.search.proofs.Laws.{Held, held_none, held_all, held_tested, held_failed}
-use mathlib.Core.Bool.{◌&&◌}
-use Rattle.protocol.specs.Sound.{server_sound, servers_sound}
-use Rattle.world.proofs.Seats.{seat_own}
+use Prim.Native.Nat.{ℕ, ◌-◌}
+use Rattle.search.proofs.Laws.{Held}
+use Rattle.protocol.specs.Sound.{server_sound}
 use Rattle.soundness.proofs.servers.servers_sound.Given as goal
 
 abbrev pub invariant-loop-s : goal.invariant-loop-s

@@ -1,5 +1,4 @@
 use Rattle.world.specs.Fresh.{fresh_world}
-use Rattle.std.proofs.Common.{rules}
 use Rattle.world.proofs.World.fresh.Goals as goal
 
 pub returns : goal.returns

@@ -1,5 +1,5 @@
 use Rattle.world.proofs.Bits.{has_past, has_bit}
-use Rattle.std.proofs.Common.{arith, rules}
+use Rattle.std.proofs.Common.{arith}
 use Rattle.world.proofs.mask.has.Goals as goal
 
 pub returns-then-server-ge-MOST : goal.returns-then-server-ge-MOST

@@ -1,8 +1,5 @@
-use Rattle.std.proofs.Common.{ℕ, ◌-◌, not, eqb, get_or, sym, ap, ◌∙◌, arith, rules, eq-eqb, ne_eqb}
-use Rattle.search.specs.Search.{is_found}
-use Rattle.search.proofs.Laws.{Passed, passed_none, passed_more, passed_here, passed_all}
-use Rattle.search.specs.declared.Found.{Found}
-use Rattle.world.specs.Requests.{same_digest}
+use Rattle.std.proofs.Common.{ℕ, ◌-◌, not, eqb, get_or}
+use Rattle.search.proofs.Laws.{Passed}
 use Rattle.world.proofs.request.same_digest.Given as goal
 
 abbrev pub invariant-loop-k : goal.invariant-loop-k

@@ -1,4 +1,4 @@
-use Rattle.std.proofs.Common.{◌≡◌, ◌-◌, ◌≤◌, length, take, refl, arith, length-set, rules}
+use Rattle.std.proofs.Common.{◌≡◌, refl, arith, length-set, rules}
 use Rattle.fips180.specs.Sha256.{block_words}
 use Rattle.compression.proofs.Words.{more_words}
 use Rattle.compression.proofs.expansion.Schedule.begun.Goals as goal

@@ -1,6 +1,5 @@
-use Rattle.std.proofs.Common.{◌≡◌, ◌-◌, ◌≤◌, length, take, refl, arith, length-set, rules}
+use Rattle.std.proofs.Common.{◌≡◌, ◌-◌, ◌≤◌, length, take}
 use Rattle.fips180.specs.Sha256.{block_words}
-use Rattle.compression.proofs.Words.{more_words}
 use Rattle.compression.proofs.expansion.Schedule.begun.Given as goal
 
 abbrev pub invariant-loop-t : goal.invariant-loop-t

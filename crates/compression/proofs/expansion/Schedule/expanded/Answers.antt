@@ -1,4 +1,4 @@
-use Rattle.std.proofs.Common.{◌≡◌, ◌+◌, ◌-◌, ◌≤◌, length, take, sym, ◌∙◌, arith, length-set, take_all, rules}
+use Rattle.std.proofs.Common.{◌≡◌, ◌+◌, sym, ◌∙◌, arith, length-set, take_all, rules}
 use Rattle.fips180.specs.Sha256.{scheduled}
 use Rattle.compression.proofs.Words.{more_schedule}
 use Rattle.compression.proofs.expansion.Schedule.expanded.Goals as goal

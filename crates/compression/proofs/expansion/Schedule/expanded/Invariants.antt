@@ -1,6 +1,5 @@
-use Rattle.std.proofs.Common.{◌≡◌, ◌+◌, ◌-◌, ◌≤◌, length, take, sym, ◌∙◌, arith, length-set, take_all, rules}
+use Rattle.std.proofs.Common.{◌≡◌, ◌+◌, ◌-◌, ◌≤◌, length, take}
 use Rattle.fips180.specs.Sha256.{scheduled}
-use Rattle.compression.proofs.Words.{more_schedule}
 use Rattle.compression.proofs.expansion.Schedule.expanded.Given as goal
 
 abbrev pub invariant-loop-t : goal.invariant-loop-t

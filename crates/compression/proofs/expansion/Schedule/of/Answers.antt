@@ -1,4 +1,3 @@
-use Rattle.std.proofs.Common.{rules}
 use Rattle.compression.proofs.expansion.Schedule.of.Goals as goal
 
 pub returns : goal.returns

@@ -1,4 +1,4 @@
-use Rattle.std.proofs.Common.{length, ◌≡◌, sym, ap, arith, rules}
+use Rattle.std.proofs.Common.{length, ◌≡◌, arith, rules}
 use lib.Seq.{set_out}
 use Rattle.world.specs.declared.delivered.Delivered.{Delivered}
 use Rattle.world.proofs.delivered.Delivered.append.Goals as goal

@@ -1,5 +1,4 @@
 use Rattle.world.specs.Delivered.{fresh_delivered}
-use Rattle.std.proofs.Common.{rules}
 use Rattle.world.proofs.delivered.Delivered.fresh.Goals as goal
 
 pub returns : goal.returns

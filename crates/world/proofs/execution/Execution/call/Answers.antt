@@ -1,4 +1,4 @@
-use Rattle.std.proofs.Common.{rules, eq-eqb, ne_eqb}
+use Rattle.std.proofs.Common.{eq-eqb, ne_eqb}
 use Rattle.world.proofs.execution.Execution.call.Goals as goal
 
 pub returns-then-self-ne-UNNUMBERED : goal.returns-then-self-ne-UNNUMBERED

@@ -1,4 +1,3 @@
-use Rattle.std.proofs.Common.{rules}
 use Rattle.world.proofs.execution.Execution.open.Goals as goal
 
 pub returns : goal.returns

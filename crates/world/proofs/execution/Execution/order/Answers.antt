@@ -1,4 +1,4 @@
-use Rattle.std.proofs.Common.{◌≡◌, sym, ◌∙◌, rules, eq-eqb, ne_eqb}
+use Rattle.std.proofs.Common.{◌≡◌, sym, ◌∙◌, eq-eqb, ne_eqb}
 use lib.Count.{ones}
 use Rattle.world.specs.Roster.{threshold}
 use Rattle.world.specs.Executions.{ordered}

@@ -1,6 +1,5 @@
-use Rattle.std.proofs.Common.{ℕ, ◌-◌, ◌&&◌, eqb, ltb, sym, ap, ◌∙◌, arith, rules}
-use Rattle.search.proofs.Laws.{Passed, passed_none, passed_more, passed_here, passed_all}
-use Rattle.world.specs.Executions.{execution_at}
+use Rattle.std.proofs.Common.{arith}
+use Rattle.search.proofs.Laws.{passed_none, passed_more, passed_here, passed_all}
 use Rattle.world.proofs.execution.Executions.find.Goals as goal
 
 pub loop-k-init : goal.loop-k-init

@@ -1,5 +1,5 @@
-use Rattle.std.proofs.Common.{ℕ, ◌-◌, ◌&&◌, eqb, ltb, sym, ap, ◌∙◌, arith, rules}
-use Rattle.search.proofs.Laws.{Passed, passed_none, passed_more, passed_here, passed_all}
+use Rattle.std.proofs.Common.{ℕ, ◌-◌, ◌&&◌, eqb, ltb}
+use Rattle.search.proofs.Laws.{Passed}
 use Rattle.world.specs.Executions.{execution_at}
 use Rattle.world.proofs.execution.Executions.find.Given as goal
 

@@ -1,5 +1,4 @@
 use Rattle.world.specs.Executions.{fresh_executions}
-use Rattle.std.proofs.Common.{rules}
 use Rattle.world.proofs.execution.Executions.fresh.Goals as goal
 
 pub returns : goal.returns

@@ -1,4 +1,3 @@
-use Rattle.std.proofs.Common.{rules}
 use Rattle.world.proofs.hold.Entry.free.Goals as goal
 
 pub returns : goal.returns

@@ -1,6 +1,5 @@
-use Rattle.std.proofs.Common.{ℕ, ◌-◌, eqb, sym, ap, ◌∙◌, arith, rules, eq-eqb, ne_eqb}
-use Rattle.search.proofs.Laws.{Passed, passed_none, passed_more, passed_here, passed_all}
-use Rattle.world.specs.Hold.{entry_at, is_ready, is_entry}
+use Rattle.std.proofs.Common.{arith, eq-eqb, ne_eqb}
+use Rattle.search.proofs.Laws.{passed_none, passed_more, passed_here, passed_all}
 use Rattle.world.proofs.hold.Hold.free.Goals as goal
 
 pub loop-k-init : goal.loop-k-init

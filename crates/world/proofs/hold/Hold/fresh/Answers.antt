@@ -1,5 +1,4 @@
 use Rattle.world.specs.Hold.{fresh_hold}
-use Rattle.std.proofs.Common.{rules}
 use Rattle.world.proofs.hold.Hold.fresh.Goals as goal
 
 pub returns : goal.returns

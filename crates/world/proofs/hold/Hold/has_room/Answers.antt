@@ -1,4 +1,4 @@
-use Rattle.std.proofs.Common.{sym, ap, ◌∙◌, rules}
+use Rattle.std.proofs.Common.{sym, ap, ◌∙◌}
 use Rattle.search.specs.Search.{is_found}
 use Rattle.world.proofs.hold.Hold.has_room.Goals as goal
 

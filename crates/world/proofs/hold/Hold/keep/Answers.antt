@@ -1,4 +1,4 @@
-use Rattle.std.proofs.Common.{◌<◌, arith, rules}
+use Rattle.std.proofs.Common.{arith}
 use Rattle.search.proofs.Laws.{found_in}
 use Rattle.world.specs.Hold.{entry_added, entry_added_at}
 use Rattle.world.proofs.hold.Hold.keep.Goals as goal

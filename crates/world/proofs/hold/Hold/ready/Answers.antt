@@ -1,6 +1,5 @@
-use Rattle.std.proofs.Common.{ℕ, ◌-◌, eqb, sym, ap, ◌∙◌, arith, rules}
-use Rattle.search.proofs.Laws.{Passed, passed_none, passed_more, passed_here, passed_all}
-use Rattle.world.specs.Hold.{entry_at, is_ready, is_entry}
+use Rattle.std.proofs.Common.{sym, ◌∙◌, arith}
+use Rattle.search.proofs.Laws.{passed_none, passed_more, passed_here, passed_all}
 use Rattle.world.proofs.hold.Hold.ready.Goals as goal
 
 pub loop-k-init : goal.loop-k-init

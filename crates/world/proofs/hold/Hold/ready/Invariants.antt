@@ -1,6 +1,6 @@
-use Rattle.std.proofs.Common.{ℕ, ◌-◌, eqb, sym, ap, ◌∙◌, arith, rules}
-use Rattle.search.proofs.Laws.{Passed, passed_none, passed_more, passed_here, passed_all}
-use Rattle.world.specs.Hold.{entry_at, is_ready, is_entry}
+use Rattle.std.proofs.Common.{ℕ, ◌-◌}
+use Rattle.search.proofs.Laws.{Passed}
+use Rattle.world.specs.Hold.{entry_at, is_ready}
 use Rattle.world.proofs.hold.Hold.ready.Given as goal
 
 abbrev pub invariant-loop-k : goal.invariant-loop-k

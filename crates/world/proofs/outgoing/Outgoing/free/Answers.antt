@@ -1,6 +1,5 @@
-use Rattle.std.proofs.Common.{ℕ, ◌-◌, not, sym, ap, ◌∙◌, arith, rules}
-use Rattle.search.proofs.Laws.{Passed, passed_none, passed_more, passed_here, passed_all}
-use Rattle.world.specs.Outgoing.{is_free}
+use Rattle.std.proofs.Common.{arith}
+use Rattle.search.proofs.Laws.{passed_none, passed_more, passed_here, passed_all}
 use Rattle.world.proofs.outgoing.Outgoing.free.Goals as goal
 
 pub loop-place-init : goal.loop-place-init

@@ -1,5 +1,5 @@
-use Rattle.std.proofs.Common.{ℕ, ◌-◌, not, sym, ap, ◌∙◌, arith, rules}
-use Rattle.search.proofs.Laws.{Passed, passed_none, passed_more, passed_here, passed_all}
+use Rattle.std.proofs.Common.{ℕ, ◌-◌}
+use Rattle.search.proofs.Laws.{Passed}
 use Rattle.world.specs.Outgoing.{is_free}
 use Rattle.world.proofs.outgoing.Outgoing.free.Given as goal
 

@@ -1,5 +1,4 @@
 use Rattle.world.specs.Outgoing.{fresh_outgoing}
-use Rattle.std.proofs.Common.{rules}
 use Rattle.world.proofs.outgoing.Outgoing.fresh.Goals as goal
 
 pub returns : goal.returns

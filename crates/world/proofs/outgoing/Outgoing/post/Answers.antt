@@ -1,4 +1,4 @@
-use Rattle.std.proofs.Common.{◌<◌, arith, rules}
+use Rattle.std.proofs.Common.{arith}
 use Rattle.search.proofs.Laws.{found_in}
 use Rattle.world.specs.Outgoing.{packet_added, packet_added_at}
 use Rattle.world.proofs.outgoing.Outgoing.post.Goals as goal

@@ -1,7 +1,5 @@
-use Rattle.std.proofs.Common.{◌≡◌, ℕ, ◌-◌, ◌≤◌, sym, ap, ◌∙◌, ⊎_elim, arith, rules}
-use Rattle.search.specs.Search.{count}
+use Rattle.std.proofs.Common.{◌≡◌, sym, arith, rules}
 use Rattle.search.proofs.Laws.{count_none, counted_yes, counted_no}
-use Rattle.world.specs.Outgoing.{is_free}
 use Rattle.world.proofs.outgoing.Outgoing.room.Goals as goal
 use Rattle.world.proofs.outgoing.Outgoing.room.Goals.{then-not-self-k, else-not-self-k}
 
@@ -12,8 +10,9 @@ pub loop-k-preserved : goal.loop-k-preserved
 loop-k-preserved c =
     let e = c.loop-k.invariant.1.1 in
     elim c.if-not-self-k.branch [
-    then-not-self-k w ↦ (omega arith, (omega arith, counted_yes _ _ _ _ e w.if-not-self-k.true-raw w.free-is)) |
-    else-not-self-k w ↦ (omega arith, (omega arith, counted_no _ _ _ _ e w.if-not-self-k.false-raw w.free-is)) ]
+      | then-not-self-k w ↦ (omega arith, (omega arith, counted_yes _ _ _ _ e w.if-not-self-k.true-raw w.free-is))
+      | else-not-self-k w ↦ (omega arith, (omega arith, counted_no _ _ _ _ e w.if-not-self-k.false-raw w.free-is))
+    ]
 
 pub returns : goal.returns
 returns c = let e : c.loop-k.k ≡ 64 = omega arith in rw e at c.loop-k.invariant.1.1

@@ -1,6 +1,5 @@
-use Rattle.std.proofs.Common.{◌≡◌, ℕ, ◌-◌, ◌≤◌, sym, ap, ◌∙◌, ⊎_elim, arith, rules}
+use Rattle.std.proofs.Common.{◌≡◌, ℕ, ◌-◌, ◌≤◌}
 use Rattle.search.specs.Search.{count}
-use Rattle.search.proofs.Laws.{count_none, counted_yes, counted_no}
 use Rattle.world.specs.Outgoing.{is_free}
 use Rattle.world.proofs.outgoing.Outgoing.room.Given as goal
 

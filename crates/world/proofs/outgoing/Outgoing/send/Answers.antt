@@ -1,4 +1,4 @@
-use Rattle.std.proofs.Common.{◌≡◌, ◌-◌, ◌≤◌, refl, arith, rules}
+use Rattle.std.proofs.Common.{◌≡◌, refl, arith, rules}
 use Rattle.world.specs.Outgoing.{sent_below}
 use Rattle.world.proofs.Sends.{sent_more}
 use Rattle.world.proofs.outgoing.Outgoing.send.Goals as goal

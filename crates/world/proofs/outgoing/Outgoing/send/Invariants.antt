@@ -1,6 +1,5 @@
-use Rattle.std.proofs.Common.{◌≡◌, ◌-◌, ◌≤◌, refl, arith, rules}
+use Rattle.std.proofs.Common.{◌≡◌, ◌-◌, ◌≤◌}
 use Rattle.world.specs.Outgoing.{sent_below}
-use Rattle.world.proofs.Sends.{sent_more}
 use Rattle.world.proofs.outgoing.Outgoing.send.Given as goal
 
 abbrev pub invariant-loop-to : goal.invariant-loop-to

@@ -1,5 +1,5 @@
 use Rattle.search.proofs.Booleans.{not_out, not_no}
-use Rattle.std.proofs.Common.{sym, ◌∙◌, rules}
+use Rattle.std.proofs.Common.{sym, ◌∙◌}
 use Rattle.world.proofs.outgoing.Outgoing.send_to.Goals as goal
 
 pub returns-then-not-is_recipient : goal.returns-then-not-is_recipient

@@ -1,5 +1,4 @@
-use Rattle.std.proofs.Common.{◌≡◌, ℕ, ◌+◌, ◌-◌, ◌/◌, ◌%◌, ◌^◌, ◌≤◌, List, [], ◌∷◌, ◌++◌, length, take, sym, refl, ap, ◌∙◌, arith, length-set, take_all, rules}
-use Rattle.fips180.specs.Sha256.{be}
+use Rattle.std.proofs.Common.{◌≡◌, ℕ, ◌/◌, ◌%◌, ◌^◌, List, [], ◌∷◌, ◌++◌, length, sym, refl, ap, ◌∙◌, arith, length-set, take_all, rules}
 use Rattle.world.specs.declared.request.Request.{Request}
 use Rattle.world.specs.Requests.{request_bytes}
 use Rattle.world.proofs.Bytes.{more_behind}

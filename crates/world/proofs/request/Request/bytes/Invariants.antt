@@ -1,9 +1,6 @@
-use Rattle.std.proofs.Common.{◌≡◌, ℕ, ◌+◌, ◌-◌, ◌/◌, ◌%◌, ◌^◌, ◌≤◌, List, [], ◌∷◌, ◌++◌, length, take, sym, refl, ap, ◌∙◌, arith, length-set, take_all, rules}
+use Rattle.std.proofs.Common.{◌≡◌, ℕ, ◌+◌, ◌-◌, ◌≤◌, List, [], ◌∷◌, ◌++◌, length, take}
 use Rattle.fips180.specs.Sha256.{be}
 use Rattle.world.specs.declared.request.Request.{Request}
-use Rattle.world.specs.Requests.{request_bytes}
-use Rattle.world.proofs.Typed.{request_command}
-use Rattle.world.proofs.Bytes.{more_behind}
 use Rattle.world.proofs.request.Request.bytes.Given as goal
 
 -- what stands ahead of the command

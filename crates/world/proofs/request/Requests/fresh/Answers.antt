@@ -1,5 +1,4 @@
 use Rattle.world.specs.Requests.{fresh_requests}
-use Rattle.std.proofs.Common.{rules}
 use Rattle.world.proofs.request.Requests.fresh.Goals as goal
 
 pub returns : goal.returns

@@ -1,7 +1,7 @@
-use Rattle.std.proofs.Common.{ℕ, ◌-◌, Bool, ◌&&◌, ltb, sym, ap, ◌∙◌, arith, rules}
+use Rattle.std.proofs.Common.{Bool, ◌&&◌, ltb, sym, ap, ◌∙◌, arith}
 use Rattle.search.specs.Search.{is_found}
-use Rattle.search.proofs.Laws.{Passed, passed_none, passed_more, passed_here, passed_all}
-use Rattle.world.specs.Requests.{request_at, same_digest, known_digest}
+use Rattle.search.proofs.Laws.{passed_none, passed_more, passed_here, passed_all}
+use Rattle.world.specs.Requests.{known_digest}
 use Rattle.world.proofs.request.Requests.knows.Goals as goal
 
 pub loop-k-init : goal.loop-k-init

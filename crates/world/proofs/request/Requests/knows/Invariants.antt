@@ -1,7 +1,6 @@
-use Rattle.std.proofs.Common.{ℕ, ◌-◌, Bool, ◌&&◌, ltb, sym, ap, ◌∙◌, arith, rules}
-use Rattle.search.specs.Search.{is_found}
-use Rattle.search.proofs.Laws.{Passed, passed_none, passed_more, passed_here, passed_all}
-use Rattle.world.specs.Requests.{request_at, same_digest, known_digest}
+use Rattle.std.proofs.Common.{ℕ, ◌-◌, ◌&&◌, ltb}
+use Rattle.search.proofs.Laws.{Passed}
+use Rattle.world.specs.Requests.{request_at, same_digest}
 use Rattle.world.proofs.request.Requests.knows.Given as goal
 
 abbrev pub invariant-loop-k : goal.invariant-loop-k

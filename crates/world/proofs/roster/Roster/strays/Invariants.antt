@@ -1,6 +1,5 @@
-use Rattle.std.proofs.Common.{ℕ, ◌-◌, Bool, not, ◌&&◌, sym, ap, ◌∙◌, arith, rules}
-use Rattle.search.specs.Search.{is_found}
-use Rattle.search.proofs.Laws.{Passed, passed_none, passed_more, passed_here, passed_all}
+use Rattle.std.proofs.Common.{ℕ, ◌-◌, not, ◌&&◌}
+use Rattle.search.proofs.Laws.{Passed}
 use Rattle.world.specs.Masks.{has}
 use Rattle.world.specs.Roster.{member}
 use Rattle.world.proofs.roster.Roster.strays.Given as goal
