@@ -1,4 +1,4 @@
-//! Links the archive of proved functions that `rt staticlib bridge` writes.
+//! Links the archive of proved functions that `tools/build bridge` writes.
 
 use std::path::Path;
 
@@ -7,7 +7,7 @@ fn main() {
     let archive = folder.join("libbridge.a");
     println!("cargo::rerun-if-changed={}", archive.display());
     if !archive.is_file() {
-        println!("cargo::error=there is no target/staticlib/libbridge.a: make it with `rt staticlib bridge`");
+        println!("cargo::error=there is no target/staticlib/libbridge.a: make it with `tools/build bridge`");
         return;
     }
     println!("cargo::rustc-link-search=native={}", folder.display());

@@ -2,7 +2,7 @@
  * listing, as `rehearse` does; a refusal is named on standard error, and the status is then 1. From the repository's
  * folder:
  *
- *     rt staticlib bridge
+ *     tools/build bridge
  *     cc -std=c11 -I bindings -o target/run_c bindings/run.c target/staticlib/libbridge.a
  *     target/run_c < examples/incident3.bin */
 #include <stdio.h>

@@ -1,4 +1,4 @@
-/* The boundary for C and C++: what `rt staticlib bridge` writes to target/staticlib/libbridge.a. The structs are those
+/* The boundary for C and C++: what `tools/build bridge` writes to target/staticlib/libbridge.a. The structs are those
  * of crates/world/src, crates/protocol/src/ending.rt and crates/bridge/src/lib.rt, field by field; src/world.rs says
  * the same for Rust. A code is an answer's or a refusal's; a number is what the orderer gives; a serial is a client's
  * own number of its request.

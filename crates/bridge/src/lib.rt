@@ -1,4 +1,4 @@
-// What C and Rust callers link (`rt staticlib bridge`): numbers, lent bytes, and worlds by value. What passes how is
+// What C and Rust callers link (`tools/build bridge`): numbers, lent bytes, and worlds by value. What passes how is
 // written down on the callers' side, in `bindings`.
 #![tactic(auto)]
 
