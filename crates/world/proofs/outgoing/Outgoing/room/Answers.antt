@@ -1,7 +1,6 @@
 use Rattle.std.proofs.Common.{◌≡◌, sym, arith, rules}
 use Rattle.search.proofs.Laws.{count_none, counted_yes, counted_no}
 use Rattle.world.proofs.outgoing.Outgoing.room.Goals as goal
-use Rattle.world.proofs.outgoing.Outgoing.room.Goals.{then-not-self-k, else-not-self-k}
 
 pub loop-k-init : goal.loop-k-init
 loop-k-init c = (search rules, (search rules, sym (count_none _)))
@@ -9,10 +8,7 @@ loop-k-init c = (search rules, (search rules, sym (count_none _)))
 pub loop-k-preserved : goal.loop-k-preserved
 loop-k-preserved c =
     let e = c.loop-k.invariant.1.1 in
-    elim c.if-not-self-k.branch [
-      | then-not-self-k w ↦ (omega arith, (omega arith, counted_yes _ _ _ _ e w.if-not-self-k.true-raw w.free-is))
-      | else-not-self-k w ↦ (omega arith, (omega arith, counted_no _ _ _ _ e w.if-not-self-k.false-raw w.free-is))
-    ]
+    (omega arith, (omega arith, grind (arith, counted_yes, counted_no)))
 
 pub returns : goal.returns
 returns c = let e : c.loop-k.k ≡ 64 = omega arith in rw e at c.loop-k.invariant.1.1
