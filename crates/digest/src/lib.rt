@@ -26,6 +26,7 @@ fn hash(s: &[u8]) -> State
 }
 
 // The digest of a message of at most `MOST` bytes; a longer one is refused as `LONG`, with zeros.
+#[tactic(auto, unfolding(fips180::specs::Digest::digest_answer, fips180::specs::Sha256::digest_of))]
 pub fn sha256(s: &[u8]) -> Digest
     ensures { result ≡ digest_answer s.now }
 {

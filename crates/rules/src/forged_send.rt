@@ -10,6 +10,7 @@ use search::Found;
 use world::{Executions, Roster};
 
 // An execution of its own, with any id and any digest.
+#[tactic(auto, unfolding(protocol::specs::Rules::forge_send_of, search::specs::Tests::must))]
 pub fn forge_send(
     roster: Roster,
     server: u8,

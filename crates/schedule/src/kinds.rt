@@ -6,6 +6,7 @@ use format::{Act, Form, Kind, Schedule};
 use world::Request;
 
 // The meaning of each of the 256 kind numbers.
+#[tactic(auto, unfolding(format::specs::Records::form_of))]
 pub fn form_of(kind: u8) -> Form
     ensures { result ≡ form_of kind }
 {

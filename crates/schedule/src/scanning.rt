@@ -34,6 +34,7 @@ fn scan(s: &[u8], from: usize) -> Verdict
 }
 
 // Tests 20 to 25, in document 01's order.
+#[tactic(auto, using(format::proofs::Reader::empty_start), unfolding(format::specs::Judging::judged, format::specs::Judging::records_judged, search::specs::Tests::must))]
 pub fn judge(s: &[u8]) -> Verdict
     ensures { result ≡ judged s.now }
 {
