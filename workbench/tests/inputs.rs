@@ -10,11 +10,18 @@ use std::process::{Command, Output, Stdio};
 const CASE_A: &[u8] = include_bytes!("../../examples/case_a.bin");
 
 /// Where the output goes.
-#[derive(Clone, Copy, PartialEq, Eq)]
+#[derive(Clone, Copy)]
 enum To {
     Read,
     Closed,
     Full,
+}
+
+/// A pipe whose reader has gone before anything is written.
+fn without_reader() -> Stdio {
+    let (reader, writer) = std::io::pipe().expect("there are pipes");
+    drop(reader);
+    writer.into()
 }
 
 /// Runs the program on an input.
@@ -23,12 +30,10 @@ fn run(words: &[&OsStr], input: &[u8], to: To) -> Output {
     command.args(words).stdin(Stdio::piped()).stderr(Stdio::piped());
     match to {
         To::Full => command.stdout(File::options().write(true).open("/dev/full").expect("there is /dev/full")),
-        To::Read | To::Closed => command.stdout(Stdio::piped()),
+        To::Read => command.stdout(Stdio::piped()),
+        To::Closed => command.stdout(without_reader()),
     };
     let mut child = command.spawn().expect("staubharfe can be run");
-    if to == To::Closed {
-        drop(child.stdout.take());
-    }
     let mut stdin = child.stdin.take().expect("it has an input");
     std::thread::scope(|scope| {
         // With bad words it ends without reading.
