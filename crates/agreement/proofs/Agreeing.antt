@@ -1,4 +1,5 @@
 -- A world of the invariant agrees. Assumes nothing.
+use Rattle.std.specs.Prelude.{Some}
 use mathlib.Core.Path.{◌≡◌, sym, ap, subst, ◌∙◌}
 use mathlib.Core.Bool.{true}
 use mathlib.Core.List.{List}
@@ -6,7 +7,6 @@ use Prim.Native.Nat.{ℕ, ◌+◌, ◌<◌, ◌≤◌}
 use native.Mathlib.Omega.{arith}
 use lib.ListN.{length, get_or, take}
 use lib.Seq.{length-take-le, get_or-take, take_all, take-append_seam}
-use Rattle.search.specs.declared.Found.TheVariants.{At}
 use Rattle.world.specs.declared.World.{World}
 use Rattle.world.specs.declared.sending.Sending.{Sending}
 use Rattle.world.specs.Executions.{execution_at, execution_of}
@@ -27,7 +27,7 @@ numbered_one {w} {a} {b} p q s i =
     let same : execution_of (executions_of w a.sender) a.id ≡ execution_of (executions_of w b.sender) b.id =
     ap (λ (x : ℕ). execution_of (executions_of w x) a.id) s ∙ ap (λ (y : ℕ). execution_of (executions_of w b.sender) y) i
     in
-    let y : At p.place ≡ At q.place = sym p.found ∙ same ∙ q.found in
+    let y : Some p.place ≡ Some q.place = sym p.found ∙ same ∙ q.found in
     let z : p.place ≡ q.place = cc in
     sym p.number
     ∙ ap (λ (x : ℕ). (execution_at (executions_of w x) p.place).number) s
@@ -45,7 +45,7 @@ module _ (w : World) (g : Good w) where
       let t = b.there in
       record {
         place = b.place;
-        found = rw (seat_own s t.seated) (subst (λ (j : ℕ). execution_of (table_at w.executions s) j ≡ At b.place) b.id (id_finds w g.facts t));
+        found = rw (seat_own s t.seated) (subst (λ (j : ℕ). execution_of (table_at w.executions s) j ≡ Some b.place) b.id (id_finds w g.facts t));
         number = rw (seat_own s t.seated) b.number;
         stored = b.matches.stored;
         digest = rw (seat_own s t.seated) b.matches.same;

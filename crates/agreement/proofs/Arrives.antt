@@ -1,4 +1,5 @@
 -- An arrive step and a forged packet keep the invariant. Assumes nothing.
+use Rattle.std.specs.Prelude.{is_some}
 use mathlib.Core.Path.{◌≡◌, refl}
 use mathlib.Core.Logic.{inl, inr}
 use mathlib.Core.Bool.{true, false, not, ◌&&◌, ◌||◌}
@@ -8,7 +9,6 @@ use lib.Dec.{eqb, ltb}
 use lib.ListN.{length, get_or, set}
 use lib.Seq.{set-get_or, get_or-set_same}
 use borrow.Author.Tests.{eqb-true, eqb-false}
-use Rattle.search.specs.Search.{is_found}
 use Rattle.world.specs.declared.World.{World}
 use Rattle.world.specs.declared.hold.Hold.{Hold}
 use Rattle.world.specs.declared.sending.Sending.{Sending}
@@ -95,7 +95,7 @@ module _ (w : World) (f : FactsOf w) (v : InvOf w) where
         (λ ok.
         held_equal (hold_at w.holds p) packet.sending (rw (good w f p ok) at (not_no (faulty w.roster p || holding (hold_at w.holds p) packet.sending) no))))))
         λ _.
-        musts P (is_found (free_hold (hold_at w.holds p))) _ _ same λ room.
+        musts P (is_some (free_hold (hold_at w.holds p))) _ _ same λ room.
         calm w f t _ _ _
         (rw (set-get_or w.delivered o no_items)
         (gone (entry_kept v (one w f) p full size e (omega arith) room)
@@ -137,7 +137,7 @@ module _ (w : World) (f : FactsOf w) (v : InvOf w) where
       musts P (member w.roster from && member w.roster to && member w.roster sender) _ _ same λ _.
       musts P (faulty w.roster from) _ _ same λ _.
       musts P (ltb slot w.requests.count) _ _ same λ _.
-      musts P (is_found (free_outgoing o)) _ _ same λ _.
+      musts P (is_some (free_outgoing o)) _ _ same λ _.
       calm w f t _ _ _
       (rw (set-get_or w.holds (seat from) no_entries, set-get_or w.delivered (seat from) no_items)
       (packets_keep v (one w f) _

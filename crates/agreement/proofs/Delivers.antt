@@ -1,4 +1,5 @@
 -- A deliver step keeps the invariant. Assumes nothing.
+use Rattle.std.specs.Prelude.{None, Option, Some}
 use mathlib.Core.Path.{◌≡◌, refl, sym}
 use mathlib.Core.Logic.{inl}
 use mathlib.Core.Bool.{not}
@@ -8,8 +9,6 @@ use lib.Dec.{eqb}
 use lib.ListN.{length}
 use lib.Seq.{set-get_or, get_or-set_same}
 use borrow.Author.Tests.{eqb-true}
-use Rattle.search.specs.declared.Found.{Found}
-use Rattle.search.specs.declared.Found.TheVariants.{At, Nothing}
 use Rattle.search.proofs.Laws.{found_in}
 use Rattle.world.specs.declared.World.{World}
 use Rattle.world.specs.Sizes.{hold_places}
@@ -33,13 +32,13 @@ use Rattle.agreement.proofs.Moves.{Moves}
 use Rattle.agreement.proofs.Moving.{at, one, named, seated, few, keys, calm, stays, in_holds}
 
 module _ (w : World) (f : FactsOf w) (v : InvOf w) where
-  delivered_at_lem : (p x y : ℕ) → Correct w.roster p → (g : Found) → g ≡ ready_place (hold_at w.holds p) (next_of (done_at w.delivered p))
+  delivered_at_lem : (p x y : ℕ) → Correct w.roster p → (g : Option ℕ) → g ≡ ready_place (hold_at w.holds p) (next_of (done_at w.delivered p))
       → Moves w (put_back w (at p p x y) (deliver_found (boxes_of w (at p p x y)) g).boxes)
   unfolding deliver_found
-  delivered_at_lem p x y ok (At z) q =
+  delivered_at_lem p x y ok (Some z) q =
       let e = entry_at (hold_at w.holds p) z in
       let d = done_at w.delivered p in
-      let l = found_in _ hold_places z (At z) q refl in
+      let l = found_in _ hold_places z (Some z) q refl in
       let a = and2 (eqb e.stage 3) (eqb e.number (next_of d)) (found_at _ hold_places z (sym q)) in
       let third = eqb-true e.stage 3 a.0 in
       let number = eqb-true e.number (next_of d) a.1 in
@@ -61,7 +60,7 @@ module _ (w : World) (f : FactsOf w) (v : InvOf w) where
         numbered = rw c b.some;
         reached = rw (get_or-set_same w.delivered p (appended d e.sending) no_items all) (omega arith);
       }))))
-  delivered_at_lem p x y ok Nothing q = stays w f (at p p x y) v
+  delivered_at_lem p x y ok None q = stays w f (at p p x y) v
 
   pub deliver_moves : (server : ℕ) → (let t = touch server server server 0 in Moves w (put_back w t (deliver_of w.roster server (boxes_of w t)).boxes))
   unfolding deliver_of

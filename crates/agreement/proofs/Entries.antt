@@ -1,4 +1,5 @@
 -- The invariant stays where one entry is put into a hold: a new one, one at a later stage, or none. Assumes nothing.
+use Rattle.std.specs.Prelude.{Option, is_some}
 use mathlib.Core.Path.{◌≡◌, refl, ap, ◌∙◌}
 use mathlib.Core.Logic.{◌⊎◌, inl, inr, ◌≢◌}
 use mathlib.Core.Bool.{true}
@@ -9,8 +10,6 @@ use lib.Dec.{eqb}
 use lib.ListN.{length, set}
 use lib.Seq.{get_or-set_same}
 use borrow.Author.Tests.{eqb-true}
-use Rattle.search.specs.declared.Found.{Found}
-use Rattle.search.specs.Search.{is_found}
 use Rattle.search.proofs.Laws.{found_in}
 use Rattle.world.specs.declared.roster.Roster.{Roster}
 use Rattle.world.specs.declared.request.Requests.{Requests}
@@ -185,7 +184,7 @@ pub record Room (h : Hold) (e : Entry) : Type 0 where
   pub free : (entry_at h place).stage ≡ 0
   pub kept_there : entry_added h e ≡ entry_put h place e
 
-pub room : (h : Hold) (e : Entry) → is_found (free_hold h) ≡ true → Room h e
+pub room : (h : Hold) (e : Entry) → is_some (free_hold h) ≡ true → Room h e
 unfolding entry_added entry_added_at
 room h e y =
     let z = found_where (free_hold h) y in
@@ -193,17 +192,17 @@ room h e y =
       place = z.0;
       inside = found_in _ hold_places z.0 (free_hold h) refl z.1;
       free = eqb-true (entry_at h z.0).stage 0 (found_at (λ (k : ℕ). eqb (entry_at h k).stage 0) hold_places z.0 z.1);
-      kept_there = ap (λ (g : Found). entry_added_at h e g) z.1;
+      kept_there = ap (λ (g : Option ℕ). entry_added_at h e g) z.1;
     }
 
-pub kept_holds : (h : Hold) (e : Entry) → length h.places ≡ hold_places → is_found (free_hold h) ≡ true → (stage s i sl : ℕ) → Of e stage s i sl → Holds (entry_added h e) stage s i sl
+pub kept_holds : (h : Hold) (e : Entry) → length h.places ≡ hold_places → is_some (free_hold h) ≡ true → (stage s i sl : ℕ) → Of e stage s i sl → Holds (entry_added h e) stage s i sl
 kept_holds h e size y stage s i sl o =
     let z = room h e y in
     rw z.kept_there (put_holds h z.place e size z.inside stage s i sl o)
 
 pub entry_kept : {r : Roster} {q : Requests} {ts : List Executions} {os : List Outgoing} {hs : List Hold} {ds : List Delivered} → Inv r q ts os hs ds
     → ((a b : ℕ) (x : Execution) → Matches q a x → Matches q b x → a ≡ b) → (p : ℕ) → p < length hs → length (hold_at hs p).places ≡ hold_places
-    → (e : Entry) → e.stage < 3 → is_found (free_hold (hold_at hs p)) ≡ true → Inv r q ts os (set hs p (entry_added (hold_at hs p) e)) ds
+    → (e : Entry) → e.stage < 3 → is_some (free_hold (hold_at hs p)) ≡ true → Inv r q ts os (set hs p (entry_added (hold_at hs p) e)) ds
 entry_kept {hs = hs} v one p seated size e low y =
     let z = room (hold_at hs p) e y in
     rw z.kept_there (entry_added_lem v one p seated z.place size z.inside e low z.free)

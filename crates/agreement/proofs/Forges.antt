@@ -1,4 +1,5 @@
 -- A forged send and a forged receive keep the invariant. Assumes nothing.
+use Rattle.std.specs.Prelude.{None, Option, Some, is_some}
 use mathlib.Core.Path.{◌≡◌, refl, sym, ◌∙◌}
 use mathlib.Core.Bool.{true, false, not, ◌&&◌}
 use mathlib.Core.List.{List}
@@ -7,9 +8,6 @@ use native.Mathlib.Omega.{arith}
 use lib.Dec.{ltb}
 use lib.Seq.{set-get_or}
 use borrow.Author.Tests.{ltb-true}
-use Rattle.search.specs.declared.Found.{Found}
-use Rattle.search.specs.declared.Found.TheVariants.{At, Nothing}
-use Rattle.search.specs.Search.{is_found}
 use Rattle.world.specs.declared.World.{World}
 use Rattle.world.specs.Sizes.{servers, executions_most}
 use Rattle.world.specs.Masks.{has}
@@ -35,7 +33,7 @@ module _ (w : World) (f : FactsOf w) (v : InvOf w) where
   liar p bad ok = apart (faulty w.roster p) bad (good w f p ok)
 
   module _ (x : ℕ) (seated : x < servers) (id : ℕ) (digest : List ℕ) (bad : faulty w.roster x ≡ true)
-      (none : is_found (execution_of (table_at w.executions x) id) ≡ false) (room : (table_at w.executions x).count < executions_most) where
+      (none : is_some (execution_of (table_at w.executions x) id) ≡ false) (room : (table_at w.executions x).count < executions_most) where
     -- the sender is faulty, and no correct server has settled or delivered an execution that was not there
     unspread : (sl : ℕ) → Cause w.roster w.holds w.delivered x (opening w.roster x id digest w.numbered) sl → ⊥
     unspread sl (sender ok) = liar x bad ok
@@ -66,17 +64,17 @@ module _ (w : World) (f : FactsOf w) (v : InvOf w) where
       let l = named w f server mine in
       let e = seat_own server l in
       musts P (faulty w.roster server) _ _ same λ bad.
-      musts P (not (is_found (execution_of (table_at w.executions (seat server)) id))) _ _ same λ none.
+      musts P (not (is_some (execution_of (table_at w.executions (seat server)) id))) _ _ same λ none.
       musts P (ltb (table_at w.executions (seat server)).count executions_most) _ _ same λ room.
       rw e
-      (sent_moves server l id digest bad (rw e at (not_out (is_found (execution_of (table_at w.executions (seat server)) id)) none))
+      (sent_moves server l id digest bad (rw e at (not_out (is_some (execution_of (table_at w.executions (seat server)) id)) none))
       (rw e at (ltb-true (table_at w.executions (seat server)).count executions_most room)) 0)
 
   module _ (p x y : ℕ) (caller : p < servers) (seated : x < servers) (bad : faulty w.roster p ≡ true) (digest : List ℕ) where
-    received : (id : ℕ) (g : Found) → g ≡ execution_of (table_at w.executions x) id
+    received : (id : ℕ) (g : Option ℕ) → g ≡ execution_of (table_at w.executions x) id
         → Moves w (put_back w (at p p x y) (forge_receive_found w.roster p digest (boxes_of w (at p p x y)) g).boxes)
     unfolding forge_receive_found forge_receive_to recorded
-    received id (At k) q =
+    received id (Some k) q =
         let t = at p p x y in
         let P : Ruling → Type 0 = λ s. Moves w (put_back w t s.boxes) in
         let e = execution_at (table_at w.executions x) k in
@@ -90,7 +88,7 @@ module _ (w : World) (f : FactsOf w) (v : InvOf w) where
         (orders_more _ w.numbered _ (orders w.roster (called e p) w.numbered) f.numbers.most) refl
         (rw (set-get_or w.outgoing p no_packets, set-get_or w.holds p no_entries)
         (call_keeps v (one w f) x seated f.all_tables g.size w.numbered f.numbers.most (few w f) k i u p caller (liar p bad)))
-    received id Nothing q = stays w f (at p p x y) v
+    received id None q = stays w f (at p p x y) v
 
   pub forge_receive_moves : (server from id : ℕ) (digest : List ℕ)
       → (let t = touch server server from 0 in Moves w (put_back w t (forge_receive_of w.roster server from id digest (boxes_of w t)).boxes))

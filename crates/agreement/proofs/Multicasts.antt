@@ -1,4 +1,5 @@
 -- A multicast step keeps the invariant: its sender holds the sending, and a packet goes to each other server. Assumes nothing.
+use Rattle.std.specs.Prelude.{is_some}
 use mathlib.Core.Path.{◌≡◌, refl}
 use mathlib.Core.Logic.{inl, inr, ◌≢◌}
 use mathlib.Core.Bool.{true, not}
@@ -9,7 +10,6 @@ use lib.Dec.{ltb, leb}
 use lib.ListN.{get_or, set}
 use lib.Seq.{get_or-set_same}
 use borrow.Author.Tests.{ltb-true, leb-true}
-use Rattle.search.specs.Search.{is_found}
 use Rattle.world.specs.declared.World.{World}
 use Rattle.world.specs.declared.execution.Execution.{Execution}
 use Rattle.world.specs.declared.outgoing.Outgoing.{Outgoing}
@@ -42,7 +42,7 @@ use Rattle.agreement.proofs.Uses.{slot_own}
 
 module _ (w : World) (f : FactsOf w) (v : InvOf w) where
   module _ (p : ℕ) (ok : Correct w.roster p) (slot : ℕ) (stored : slot < w.requests.count) (seal : has (request_at w.requests slot).seals p ≡ true)
-      (quota : (table_at w.executions p).count < executions_most) (vacant : is_found (free_hold (hold_at w.holds p)) ≡ true)
+      (quota : (table_at w.executions p).count < executions_most) (vacant : is_some (free_hold (hold_at w.holds p)) ≡ true)
       (room : needed w.roster nobody p ≤ free_places (get_or w.outgoing p no_packets)) where
     abbrev id : ℕ
     id = (table_at w.executions p).count + 1
@@ -116,7 +116,7 @@ module _ (w : World) (f : FactsOf w) (v : InvOf w) where
       musts P (has b.request.seals server) _ _ same λ seal.
       musts P (ltb b.executions.count executions_most) _ _ same λ quota.
       musts P (roomy w.roster server b) _ _ same λ roomy.
-      let a = and2 (leb (needed w.roster nobody server) (free_places b.outgoing)) (is_found (free_hold b.hold)) roomy in
+      let a = and2 (leb (needed w.roster nobody server) (free_places b.outgoing)) (is_some (free_hold b.hold)) roomy in
       rw (e, c)
       (multicasts server (and_both mine good) slot k (rw c at seal) (rw e at (ltb-true b.executions.count executions_most quota)) (rw e at a.1)
       (rw e at (leb-true (needed w.roster nobody server) (free_places b.outgoing) a.0)))

@@ -1,4 +1,5 @@
 -- Each of the numbers 1 to M stands at one place; and a search for what stands at one place only finds it. Assumes nothing.
+use Rattle.std.specs.Prelude.{Some}
 use mathlib.Core.Path.{◌≡◌, refl, sym, ap, subst, ◌∙◌}
 use mathlib.Core.Logic.{◌≢◌}
 use mathlib.Core.Bool.{Bool, true}
@@ -6,7 +7,6 @@ use Prim.Native.Nat.{ℕ, zero, suc, ◌+◌, ◌-◌, ◌<◌, ◌≤◌}
 use native.Mathlib.Omega.{arith}
 use lib.Dec.{eqb}
 use borrow.Author.Tests.{eq-eqb, eqb-true}
-use Rattle.search.specs.declared.Found.TheVariants.{At}
 use Rattle.search.specs.Search.{first, count}
 use Rattle.search.proofs.Laws.{found_in}
 use Rattle.search.proofs.Booleans.{either, same?, less?}
@@ -14,10 +14,10 @@ use Rattle.search.proofs.Every.{found_at, found_where, any_in}
 use Rattle.kept.proofs.Counts.{Numbers, count_some}
 
 -- a search for what stands at one place only
-pub first_one : (t : ℕ → Bool) (n k : ℕ) → k < n → t k ≡ true → ((i : ℕ) → i < n → t i ≡ true → i ≡ k) → first t n ≡ At k
+pub first_one : (t : ℕ → Bool) (n k : ℕ) → k < n → t k ≡ true → ((i : ℕ) → i < n → t i ≡ true → i ≡ k) → first t n ≡ Some k
 first_one t n k h e one =
     let w = found_where (first t n) (any_in t n k h e) in
-    w.1 ∙ ap At (one w.0 (found_in t n w.0 (first t n) refl w.1) (found_at t n w.0 w.1))
+    w.1 ∙ ap Some (one w.0 (found_in t n w.0 (first t n) refl w.1) (found_at t n w.0 w.1))
 
 -- what stands at one place counts one or more, and at two places two or more
 count_up : (t : ℕ → Bool) (i n : ℕ) → i < n → t i ≡ true → 1 ≤ count t n

@@ -1,4 +1,5 @@
 -- Packets that are packet_added stay under way, and where there is room enough one goes to each recipient. Assumes nothing.
+use Rattle.std.specs.Prelude.{None, Option, Some, is_some}
 use mathlib.Core.Path.{◌≡◌, refl, sym, ap, ◌∙◌}
 use mathlib.Core.Logic.{◌⊎◌, inl, inr, ◌≢◌}
 use mathlib.Core.Bool.{Bool, true, false, cond, not}
@@ -7,9 +8,7 @@ use Prim.Native.Nat.{ℕ, zero, suc, ◌+◌, ◌<◌, ◌≤◌}
 use native.Mathlib.Omega.{arith}
 use lib.ListN.{length, get_or, set, length-set}
 use lib.Seq.{get_or-set_same, get_or-set_other}
-use Rattle.search.specs.declared.Found.{Found}
-use Rattle.search.specs.declared.Found.TheVariants.{At, Nothing}
-use Rattle.search.specs.Search.{is_found, count}
+use Rattle.search.specs.Search.{count}
 use Rattle.search.proofs.Laws.{found_in, count_same}
 use Rattle.world.specs.declared.roster.Roster.{Roster}
 use Rattle.world.specs.declared.outgoing.Outgoing.{Outgoing}
@@ -73,18 +72,18 @@ module _ (o : Outgoing) (k : Packet) (size : length o.places ≡ outgoing_places
     goes : 0 < free_places o → (p s i sl : ℕ) → Goes k p s i sl → Way n p s i sl
     fewer : 0 < free_places o → k.there ≡ true → free_places o ≡ free_places n + 1
 
-  posts_at : (f : Found) → f ≡ free_outgoing o → Posts (packet_added_at o k f)
+  posts_at : (f : Option ℕ) → f ≡ free_outgoing o → Posts (packet_added_at o k f)
   unfolding packet_added_at
-  posts_at (At z) e =
-      let l = found_in _ outgoing_places z (At z) e refl in
+  posts_at (Some z) e =
+      let l = found_in _ outgoing_places z (Some z) e refl in
       let free = found_at (λ (j : ℕ). is_free o j) outgoing_places z (sym e) in
       record { size_of = length-set o.places z k ∙ size; ways = put_way z free l; goes = λ _. put_goes z free l; fewer = λ _. put_count z free l }
-  posts_at Nothing e =
+  posts_at None e =
       record {
         size_of = size;
         ways = λ p s i sl w. w;
-        goes = λ l. apart (is_found (free_outgoing o)) (count_some (λ (j : ℕ). is_free o j) outgoing_places l) (rw (← e));
-        fewer = λ l. apart (is_found (free_outgoing o)) (count_some (λ (j : ℕ). is_free o j) outgoing_places l) (rw (← e));
+        goes = λ l. apart (is_some (free_outgoing o)) (count_some (λ (j : ℕ). is_free o j) outgoing_places l) (rw (← e));
+        fewer = λ l. apart (is_some (free_outgoing o)) (count_some (λ (j : ℕ). is_free o j) outgoing_places l) (rw (← e));
       }
 
   posts : Posts (packet_added o k)

@@ -1,4 +1,5 @@
 -- A propose step keeps the invariant. Assumes nothing.
+use Rattle.std.specs.Prelude.{None, Option, Some}
 use mathlib.Core.Path.{◌≡◌, refl, sym, ◌∙◌}
 use mathlib.Core.Logic.{inl, inr}
 use mathlib.Core.Bool.{true, false, not}
@@ -6,8 +7,6 @@ use Prim.Native.Nat.{ℕ, ◌<◌}
 use native.Mathlib.Omega.{arith}
 use lib.ListN.{set}
 use lib.Seq.{set-get_or, get_or-set_same}
-use Rattle.search.specs.declared.Found.{Found}
-use Rattle.search.specs.declared.Found.TheVariants.{At, Nothing}
 use Rattle.world.specs.declared.World.{World}
 use Rattle.world.specs.declared.sending.Sending.{Sending}
 use Rattle.world.specs.declared.hold.Entry.{Entry}
@@ -44,7 +43,7 @@ module _ (w : World) (f : FactsOf w) (v : InvOf w) where
     raises =
         entry_second v (one w f) p (in_holds w f p ok) place (f.entries p (seated w f p ok)).size u.within second (omega arith) first (omega arith) refl
 
-    module _ (k : ℕ) (q : execution_of (table_at w.executions sending.sender) sending.id ≡ At k) where
+    module _ (k : ℕ) (q : execution_of (table_at w.executions sending.sender) sending.id ≡ Some k) where
       -- the call is answered for: its server holds the entry
       answers : has (request_at w.requests sending.slot).seals p ≡ true → same_digest (request_at w.requests sending.slot).digest (made w.executions sending.sender k).digest ≡ true
           → Called w.requests (calling w.roster (made w.executions sending.sender k) p w.numbered) sending.sender
@@ -61,10 +60,10 @@ module _ (w : World) (f : FactsOf w) (v : InvOf w) where
                 (record { up = omega arith; sender = refl; id = sym (o.id ∙ its_id w f v p ok place u k q); slot = refl })));
           }
 
-    proposed : (g : Found) → g ≡ execution_of (table_at w.executions sending.sender) sending.id
+    proposed : (g : Option ℕ) → g ≡ execution_of (table_at w.executions sending.sender) sending.id
         → (let t = at p p sending.sender sending.slot in Moves w (put_back w t (propose_found w.roster p place (boxes_of w t) g).boxes))
     unfolding propose_found propose_to recorded
-    proposed (At k) q =
+    proposed (Some k) q =
         let t = at p p sending.sender sending.slot in
         let P : Ruling → Type 0 = λ s. Moves w (put_back w t s.boxes) in
         let x = made w.executions sending.sender k in
@@ -81,7 +80,7 @@ module _ (w : World) (f : FactsOf w) (v : InvOf w) where
         (rw (set-get_or w.outgoing p no_packets)
         (call_keeps raises (one w f) sending.sender u.sender f.all_tables g.size w.numbered f.numbers.most (few w f) k i m.used p (seated w f p ok)
         (λ _. answers k (sym q) seal same)))
-    proposed Nothing q = stays w f (at p p sending.sender sending.slot) v
+    proposed None q = stays w f (at p p sending.sender sending.slot) v
 
   pub propose_moves : (server place : ℕ)
       → (let t = touch_for server (entry_at (hold_of w server) place).sending in

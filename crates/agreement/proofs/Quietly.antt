@@ -1,4 +1,5 @@
 -- In a quiet world every correct server has delivered every number. Assumes nothing.
+use Rattle.std.specs.Prelude.{None, Option, Some, is_some}
 use mathlib.Core.Path.{◌≡◌, refl, sym, ap, subst, ◌∙◌}
 use mathlib.Core.Logic.{inl, inr, ◌≢◌}
 use mathlib.Core.Bool.{Bool, true, false, cond, not, ◌&&◌, ◌||◌}
@@ -7,9 +8,6 @@ use native.Mathlib.Omega.{arith}
 use lib.Dec.{eqb, ltb}
 use lib.ListN.{get_or}
 use borrow.Author.Tests.{eq-eqb, ne_eqb, eqb-false, lt-ltb}
-use Rattle.search.specs.declared.Found.{Found}
-use Rattle.search.specs.declared.Found.TheVariants.{At, Nothing}
-use Rattle.search.specs.Search.{is_found}
 use Rattle.world.specs.declared.World.{World}
 use Rattle.world.specs.declared.execution.Executions.{Executions}
 use Rattle.world.specs.declared.sending.Sending.{Sending}
@@ -46,20 +44,20 @@ or_no false b e = (refl, e)
 
 -- an entry with which its server, whose next number is given, could not go on
 record Rests (t : Executions) (next : ℕ) (e : Entry) : Type 0 where
-  first : is_found (own_execution t e.sending) ≡ true → e.stage ≢ 1
+  first : is_some (own_execution t e.sending) ≡ true → e.stage ≢ 1
   second : is_numbered t (own_execution t e.sending) ≡ true → e.stage ≢ 2
   third : e.number ≡ next → e.stage ≢ 3
 
 rests : (t : Executions) (next : ℕ) (e : Entry) → stirs t next e ≡ false → Rests t next e
 unfolding stirs
 rests t next e h =
-    let a = eqb e.stage 1 && is_found (own_execution t e.sending) in
+    let a = eqb e.stage 1 && is_some (own_execution t e.sending) in
     let b = eqb e.stage 2 && is_numbered t (own_execution t e.sending) in
     let c = eqb e.stage 3 && eqb e.number next in
     let p = or_no (a || b) c h in
     let q = or_no a b p.0 in
     record {
-      first = λ y. eqb-false e.stage 1 (and_no (eqb e.stage 1) (is_found (own_execution t e.sending)) q.0 y);
+      first = λ y. eqb-false e.stage 1 (and_no (eqb e.stage 1) (is_some (own_execution t e.sending)) q.0 y);
       second = λ y. eqb-false e.stage 2 (and_no (eqb e.stage 2) (is_numbered t (own_execution t e.sending)) q.1 y);
       third = λ y. eqb-false e.stage 3 (and_no (eqb e.stage 3) (eqb e.number next) p.1 (eq-eqb e.number next y));
     }
@@ -114,15 +112,15 @@ module _ (w : World) (g : Good w) (q : quiet w ≡ true) where
 
   -- the execution of a sending
   own_at : (e : Sending) {s k : ℕ} → Made w.executions s k → e.sender ≡ s → e.id ≡ (made w.executions s k).id
-      → own_execution (table_of w.executions e.sender) e ≡ At k
+      → own_execution (table_of w.executions e.sender) e ≡ Some k
   own_at e {s} {k} t a b =
-      let own : ℕ → ℕ → Found = λ (x i : ℕ). cond (ltb x servers) (execution_of (table_of w.executions x) i) Nothing in
+      let own : ℕ → ℕ → Option ℕ = λ (x i : ℕ). cond (ltb x servers) (execution_of (table_of w.executions x) i) None in
       ap (λ (x : ℕ). own x e.id) a ∙ ap (λ (i : ℕ). own s i) b ∙ rw (lt-ltb s servers t.seated) (id_finds w g.facts t)
 
   own_numbered : (e : Sending) {s k : ℕ} → Made w.executions s k → e.sender ≡ s → e.id ≡ (made w.executions s k).id → (made w.executions s k).number ≢ 0
       → is_numbered (table_of w.executions e.sender) (own_execution (table_of w.executions e.sender) e) ≡ true
   own_numbered e {s} {k} t a b d =
-      ap (λ (f : Found). is_numbered (table_of w.executions e.sender) f) (own_at e t a b)
+      ap (λ (f : Option ℕ). is_numbered (table_of w.executions e.sender) f) (own_at e t a b)
       ∙ ap (λ (x : ℕ). not (eqb (execution_at (table_of w.executions x) k).number 0)) a
       ∙ rw (seat_own s t.seated) (not_in _ (ne_eqb (made w.executions s k).number 0 d))
 

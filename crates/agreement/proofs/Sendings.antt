@@ -1,4 +1,5 @@
 -- Each number is that of one execution, and the sending of a number is the one that belongs to it. Assumes nothing.
+use Rattle.std.specs.Prelude.{Some}
 use mathlib.Core.Path.{◌≡◌, refl, sym, ap, subst, ◌∙◌}
 use mathlib.Core.Logic.{◌≢◌}
 use mathlib.Core.Bool.{◌&&◌}
@@ -9,7 +10,6 @@ use lib.Dec.{eqb, ltb}
 use lib.ListN.{length, get_or, take, drop, length-append, take-append-drop, get_or-append}
 use lib.Seq.{length-take-le, ext_get_or, get_or-take, get_or_at}
 use borrow.Author.Tests.{eq-eqb, eqb-true, ltb-true, lt-ltb, le-ltb}
-use Rattle.search.specs.declared.Found.TheVariants.{At}
 use Rattle.world.specs.declared.World.{World}
 use Rattle.world.specs.declared.request.Requests.{Requests}
 use Rattle.world.specs.declared.execution.Execution.{Execution}
@@ -111,7 +111,7 @@ module _ (w : World) (f : FactsOf w) where
       either (same? k y) (λ (z : k ≡ y). z) (λ (z : k ≢ y). absurd (ids_differ (f.tables s a.seated) k y a.used b.used z e))
 
   -- an execution's id finds it
-  pub id_finds : {s k : ℕ} → Made w.executions s k → execution_of (table_at w.executions s) (made w.executions s k).id ≡ At k
+  pub id_finds : {s k : ℕ} → Made w.executions s k → execution_of (table_at w.executions s) (made w.executions s k).id ≡ Some k
   id_finds {s} {k} t =
       let v = table_at w.executions s in
       let id = (execution_at v k).id in

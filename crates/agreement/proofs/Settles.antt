@@ -1,4 +1,5 @@
 -- A settle step keeps the invariant: whoever settles has served everyone. Assumes nothing.
+use Rattle.std.specs.Prelude.{None, Option, Some}
 use mathlib.Core.Path.{◌≡◌, refl, sym}
 use mathlib.Core.Logic.{inl, inr, ◌≢◌}
 use mathlib.Core.Bool.{true, false, not}
@@ -9,8 +10,6 @@ use lib.Dec.{eqb, leb}
 use lib.ListN.{get_or, set}
 use lib.Seq.{set-get_or}
 use borrow.Author.Tests.{eqb-true, eqb-false, leb-true}
-use Rattle.search.specs.declared.Found.{Found}
-use Rattle.search.specs.declared.Found.TheVariants.{At, Nothing}
 use Rattle.world.specs.declared.World.{World}
 use Rattle.world.specs.declared.execution.Execution.{Execution}
 use Rattle.world.specs.declared.outgoing.Outgoing.{Outgoing}
@@ -42,7 +41,7 @@ module _ (w : World) (f : FactsOf w) (v : InvOf w) where
     u : Uses w f v p ok place
     u = uses w f v p ok place 2 (λ z. omega arith) second
 
-    module _ (k : ℕ) (q : execution_of (table_at w.executions sending.sender) sending.id ≡ At k) where
+    module _ (k : ℕ) (q : execution_of (table_at w.executions sending.sender) sending.id ≡ Some k) where
       abbrev x : Execution
       x = made w.executions sending.sender k
 
@@ -87,10 +86,10 @@ module _ (w : World) (f : FactsOf w) (v : InvOf w) where
             (λ (z : o ≢ p).
             test (has x.mask o) (λ y. member_served o good y) (λ n. inl (rw (its_id w f v p ok place u k q) (posts_under w f p ok x.mask sending room o good z n))))
 
-    settles : (g : Found) → g ≡ execution_of (table_at w.executions sending.sender) sending.id
+    settles : (g : Option ℕ) → g ≡ execution_of (table_at w.executions sending.sender) sending.id
         → (let t = at p p sending.sender sending.slot in Moves w (put_back w t (settle_found w.roster p place (boxes_of w t) g).boxes))
     unfolding settle_found settle_to
-    settles (At k) q =
+    settles (Some k) q =
         let t = at p p sending.sender sending.slot in
         let P : Ruling → Type 0 = λ s. Moves w (put_back w t s.boxes) in
         let y = made w.executions sending.sender k in
@@ -108,7 +107,7 @@ module _ (w : World) (f : FactsOf w) (v : InvOf w) where
         (rw (set-get_or w.delivered p no_items)
         (raises k r some same (posts_keep w f p ok y.mask sending v)
         (sent_spread k r some same (leb-true (needed w.roster y.mask p) (free_places (get_or w.outgoing p no_packets)) room))))
-    settles Nothing q = stays w f (at p p sending.sender sending.slot) v
+    settles None q = stays w f (at p p sending.sender sending.slot) v
 
   pub settle_moves : (server place : ℕ)
       → (let t = touch_for server (entry_at (hold_of w server) place).sending in

@@ -1,4 +1,5 @@
 -- Every mask of an execution has bits of the eight servers only, at a start and after every step; `sound` looks at no other bits. Assumes nothing.
+use Rattle.std.specs.Prelude.{None, Option, Some}
 use mathlib.Core.List.{List}
 use Prim.Native.Nat.{ℕ, ◌+◌, ◌^◌, ◌<◌}
 use native.Mathlib.Omega.{arith}
@@ -7,8 +8,6 @@ use lib.Dec.{eqb, ltb}
 use lib.ListN.{set}
 use lib.Pow.{pow-lt}
 use borrow.Author.Tests.{ltb-true}
-use Rattle.search.specs.declared.Found.{Found}
-use Rattle.search.specs.declared.Found.TheVariants.{At, Nothing}
 use Rattle.world.specs.declared.World.{World}
 use Rattle.world.specs.declared.roster.Roster.{Roster}
 use Rattle.world.specs.declared.execution.Execution.{Execution}
@@ -78,31 +77,31 @@ module _ (r : Roster) (b : Boxes) (f : Low b.executions) where
   unfolding arrive_of
   arrive_small origin place = musts Leaves _ _ _ f λ _. musts Leaves _ _ _ f λ _. musts Leaves _ _ _ f λ _. musts Leaves _ _ _ f λ _. f
 
-  proposed_small : (server place : ℕ) (g : Found) → Leaves (propose_found r server place b g)
+  proposed_small : (server place : ℕ) (g : Option ℕ) → Leaves (propose_found r server place b g)
   unfolding propose_found propose_to
-  proposed_small server place (At k) =
+  proposed_small server place (Some k) =
       musts Leaves _ _ _ f λ _. musts Leaves _ _ _ f λ _. musts Leaves _ _ _ f λ _. recorded_small r (raised place 2 0 b) f server k
-  proposed_small server place Nothing = f
+  proposed_small server place None = f
 
   propose_small : (server place : ℕ) → Leaves (propose_of r server place b)
   unfolding propose_of
   propose_small server place =
       musts Leaves _ _ _ f λ _. musts Leaves _ _ _ f λ _. musts Leaves _ _ _ f λ _. proposed_small server place _
 
-  settled_small : (server place : ℕ) (g : Found) → Leaves (settle_found r server place b g)
+  settled_small : (server place : ℕ) (g : Option ℕ) → Leaves (settle_found r server place b g)
   unfolding settle_found settle_to
-  settled_small server place (At k) = musts Leaves _ _ _ f λ _. musts Leaves _ _ _ f λ _. musts Leaves _ _ _ f λ _. musts Leaves _ _ _ f λ _. f
-  settled_small server place Nothing = f
+  settled_small server place (Some k) = musts Leaves _ _ _ f λ _. musts Leaves _ _ _ f λ _. musts Leaves _ _ _ f λ _. musts Leaves _ _ _ f λ _. f
+  settled_small server place None = f
 
   settle_small : (server place : ℕ) → Leaves (settle_of r server place b)
   unfolding settle_of
   settle_small server place =
       musts Leaves _ _ _ f λ _. musts Leaves _ _ _ f λ _. musts Leaves _ _ _ f λ _. settled_small server place _
 
-  delivered_small : (g : Found) → Leaves (deliver_found b g)
+  delivered_small : (g : Option ℕ) → Leaves (deliver_found b g)
   unfolding deliver_found
-  delivered_small (At k) = f
-  delivered_small Nothing = f
+  delivered_small (Some k) = f
+  delivered_small None = f
 
   deliver_small : (server : ℕ) → Leaves (deliver_of r server b)
   unfolding deliver_of
@@ -117,10 +116,10 @@ module _ (r : Roster) (b : Boxes) (f : Low b.executions) where
   forge_send_small server id digest =
       musts Leaves _ _ _ f λ _. musts Leaves _ _ _ f λ _. musts Leaves _ _ _ f λ _. musts Leaves _ _ _ f λ _. made_small r b f server id digest
 
-  received_small : (server : ℕ) (digest : List ℕ) (g : Found) → Leaves (forge_receive_found r server digest b g)
+  received_small : (server : ℕ) (digest : List ℕ) (g : Option ℕ) → Leaves (forge_receive_found r server digest b g)
   unfolding forge_receive_found forge_receive_to
-  received_small server digest (At k) = musts Leaves _ _ _ f λ _. musts Leaves _ _ _ f λ _. recorded_small r b f server k
-  received_small server digest Nothing = f
+  received_small server digest (Some k) = musts Leaves _ _ _ f λ _. musts Leaves _ _ _ f λ _. recorded_small r b f server k
+  received_small server digest None = f
 
   forge_receive_small : (server sender id : ℕ) (digest : List ℕ) → Leaves (forge_receive_of r server sender id digest b)
   unfolding forge_receive_of

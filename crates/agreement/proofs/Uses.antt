@@ -1,4 +1,5 @@
 -- An entry that a propose or a settle step takes up: where it stands, and the execution that it names. Assumes nothing.
+use Rattle.std.specs.Prelude.{Some}
 use mathlib.Core.Path.{◌≡◌, sym, ap, ◌∙◌}
 use mathlib.Core.Logic.{◌⊎◌, inr, ◌≢◌}
 use mathlib.Core.Bool.{true, false, not}
@@ -6,7 +7,6 @@ use Prim.Native.Nat.{ℕ, ◌<◌}
 use native.Mathlib.Omega.{arith}
 use lib.Dec.{eqb, ltb}
 use borrow.Author.Tests.{ltb-true, lt-ltb, eqb-true}
-use Rattle.search.specs.declared.Found.TheVariants.{At}
 use Rattle.world.specs.declared.World.{World}
 use Rattle.world.specs.declared.execution.Execution.{Execution}
 use Rattle.world.specs.declared.hold.Entry.{Entry}
@@ -52,7 +52,7 @@ module _ (w : World) (f : FactsOf w) (v : InvOf w) (p : ℕ) (ok : Correct w.ros
       let e = entry_out w.roster _ w.numbered p _ taken (λ z. d (sym q ∙ z)) (h.places place l) in
       record { within = l; sender = named w f taken.sending.sender e.sender; slot = ltb-true taken.sending.slot w.requests.count e.slot }
 
-  module _ (u : Uses) (k : ℕ) (q : execution_of (table_at w.executions taken.sending.sender) taken.sending.id ≡ At k) where
+  module _ (u : Uses) (k : ℕ) (q : execution_of (table_at w.executions taken.sending.sender) taken.sending.id ≡ Some k) where
     -- the execution that it names
     abbrev pub its : Execution
     its = made w.executions taken.sending.sender k

@@ -2,9 +2,7 @@
 -- sendings, the one of number k + 1 at place k; each correct server has delivered a beginning of it, and no sending is
 -- in it twice; of each, some correct server with a good seal held it by the step that gave the number; and in a quiet
 -- world nobody correct lacks any of it. Besides, the list only grows.
-use Rattle.std.specs.Prelude.{ℕ, zero, suc, ◌+◌, ◌*◌, ◌/◌, ◌%◌, ◌<◌, ◌≤◌, ◌≡◌, true, ◌&&◌, List, [], ◌∷◌, ◌++◌, eqb, ltb, length, get_or, take}
-use Rattle.search.specs.declared.Found.{Found}
-use Rattle.search.specs.declared.Found.TheVariants.{At, Nothing}
+use Rattle.std.specs.Prelude.{ℕ, zero, suc, ◌+◌, ◌*◌, ◌/◌, ◌%◌, ◌<◌, ◌≤◌, ◌≡◌, true, ◌&&◌, List, [], ◌∷◌, ◌++◌, eqb, ltb, length, get_or, take, None, Option, Some}
 use Rattle.search.specs.Search.{first}
 use Rattle.world.specs.declared.World.{World}
 use Rattle.world.specs.declared.request.Requests.{Requests}
@@ -27,9 +25,9 @@ use Rattle.protocol.specs.Steps.{step_of}
 use Rattle.protocol.specs.Runs.{start_of, public_step, start_world, ran_of}
 
 -- the place that a search found
-abbrev pub place_of : Found → ℕ
-place_of (At k) = k
-place_of Nothing = 0
+abbrev pub place_of : Option ℕ → ℕ
+place_of (Some k) = k
+place_of None = 0
 
 -- the execution that has a number; the executions are counted one sender after the other
 abbrev pub numbered_at : List Executions → ℕ → ℕ
@@ -61,7 +59,7 @@ sending_at w k = get_or (sendings w) k no_sending
 -- the execution of a sending's sender and id has the number, and the digest of the request in its slot
 pub record Numbered (w : World) (s : Sending) (n : ℕ) : Type 0 where
   pub place : ℕ
-  pub found : execution_of (executions_of w s.sender) s.id ≡ At place
+  pub found : execution_of (executions_of w s.sender) s.id ≡ Some place
   pub number : (execution_at (executions_of w s.sender) place).number ≡ n
   pub stored : s.slot < w.requests.count
   pub digest :

@@ -1,5 +1,6 @@
 -- Each of the three errors breaks demand 3: the rows by computation, SHA-256 among it, the lemma by what demand 3 would say of them. Assumes
 -- nothing.
+use Rattle.std.specs.Prelude.{None, Option, Some}
 use mathlib.Core.Path.{◌≡◌, refl}
 use mathlib.Core.Bool.{Bool, true, ◌&&◌}
 use mathlib.Core.List.{List}
@@ -8,8 +9,6 @@ use lib.Count.{ones_in, ones}
 use lib.Dec.{ltb}
 use lib.ListN.{length}
 use borrow.Author.Tests.{ltb-true}
-use Rattle.search.specs.declared.Found.{Found}
-use Rattle.search.specs.declared.Found.TheVariants.{At, Nothing}
 use Rattle.search.specs.Search.{first_from, count}
 use Rattle.search.specs.Tests.{must}
 use Rattle.fips180.specs.Sha256.{padded, next_word, scheduled, round_of, rounds_of, fed, block_words, compressed, hashed, state_bytes, digest_of}
@@ -38,10 +37,10 @@ use Rattle.agreement.proofs.Sanity.{left_behind}
 use Rattle.agreement.proofs.Theorem.{by_record_lem}
 use Rattle.errors.specs.Errors.{recording_wrong, dropping_unsealed, keeping_origin, propose_found_by, propose_by, step_by, CopyIsTrue, wrong_recorded, unsealed_dropped, origin_kept, incident, unsealed, forwarded, at_end, Breaks, ErrorsBreak, RightStepsDoNot}
 
-found_same : (r : Roster) (server place : ℕ) (b : Boxes) (f : Found) → propose_found_by propose_to r server place b f ≡ propose_found r server place b f
+found_same : (r : Roster) (server place : ℕ) (b : Boxes) (f : Option ℕ) → propose_found_by propose_to r server place b f ≡ propose_found r server place b f
 unfolding propose_found_by propose_found
-found_same r server place b (At k) = refl
-found_same r server place b Nothing = refl
+found_same r server place b (Some k) = refl
+found_same r server place b None = refl
 
 propose_same : (r : Roster) (server place : ℕ) (b : Boxes) → propose_by propose_to r server place b ≡ propose_of r server place b
 unfolding propose_by propose_of

@@ -1,10 +1,7 @@
 -- Document 01, "Errors that look right". Three of the four break demand 3. Each is made here in a copy of the one rule
 -- that it changes, in one place; all other rules are those of protocol/specs/Rules.antt. (The fourth, a mask that
 -- grows after its execution was numbered, is an edit of `world`.)
-use Rattle.std.specs.Prelude.{ℕ, ◌≡◌, not, ◌||◌, List, [], ◌∷◌, eqb, replicate}
-use Rattle.search.specs.declared.Found.{Found}
-use Rattle.search.specs.declared.Found.TheVariants.{At, Nothing}
-use Rattle.search.specs.Search.{is_found}
+use Rattle.std.specs.Prelude.{ℕ, ◌≡◌, not, ◌||◌, List, [], ◌∷◌, eqb, replicate, None, Option, Some, is_some}
 use Rattle.search.specs.Tests.{must}
 use Rattle.world.specs.declared.World.{World}
 use Rattle.world.specs.declared.roster.Roster.{Roster}
@@ -57,14 +54,14 @@ keeping_origin r origin place b =
     must (member r origin) (answered BadServer b)
     (must p.there (answered NoSuch b)
     (must (not (faulty r p.to || holding b.hold p.sending)) (answered Dropped rest)
-    (must (is_found (free_hold b.hold)) (answered NoRoom b)
+    (must (is_some (free_hold b.hold)) (answered NoRoom b)
     (answered Done (with_hold rest (entry_added b.hold (entry_of 1 s 0)))))))
 
 -- propose with its last tests left open: 4, 5, 6 and 2 as they are
 module _ (last : Roster → ℕ → ℕ → ℕ → Boxes → Ruling) where
-  unfoldable pub propose_found_by : Roster → ℕ → ℕ → Boxes → Found → Ruling
-  propose_found_by r server place b (At k) = last r server place k b
-  propose_found_by r server place b Nothing = answered Wait b
+  unfoldable pub propose_found_by : Roster → ℕ → ℕ → Boxes → Option ℕ → Ruling
+  propose_found_by r server place b (Some k) = last r server place k b
+  propose_found_by r server place b None = answered Wait b
 
   unfoldable pub propose_by : Roster → ℕ → ℕ → Boxes → Ruling
   propose_by r server place b =

@@ -1,9 +1,9 @@
 -- An arrive step's boxes fit. Assumes nothing.
+use Rattle.std.specs.Prelude.{is_some}
 use mathlib.Core.Path.{◌≡◌, refl}
 use mathlib.Core.Bool.{true, false, not, ◌||◌}
 use mathlib.Core.List.{List}
 use Prim.Native.Nat.{ℕ}
-use Rattle.search.specs.Search.{is_found}
 use Rattle.world.specs.declared.roster.Roster.{Roster}
 use Rattle.world.specs.declared.execution.Executions.{Executions}
 use Rattle.world.specs.declared.outgoing.Packet.{Packet}
@@ -32,7 +32,7 @@ module _ {r : Roster} {stored m : ℕ} {ts : List Executions} {s h x : ℕ} {b :
       let k = packet_out r stored s p there (f.packets.places place l) in
       let rest = with_outgoing_lem f _ (packet_packet_freed f.packets place l) in
       musts P (not (faulty r p.to || holding b.hold p.sending)) _ _ rest λ _.
-      musts P (is_found (free_hold b.hold)) _ _ f λ _.
+      musts P (is_some (free_hold b.hold)) _ _ f λ _.
       with_hold_lem rest _
       (entry_kept f.entries (entry_of 1 p.sending 0)
       (first_entry r stored b.numbered h _ (rw (at k.1) k.1) p.sending k.2))

@@ -1,4 +1,5 @@
 -- The boxes of a forged send and of a forged receive fit. Assumes nothing.
+use Rattle.std.specs.Prelude.{None, Option, Some, is_some}
 use mathlib.Core.Path.{◌≡◌, refl, sym}
 use mathlib.Core.Bool.{true, not, ◌&&◌}
 use mathlib.Core.List.{List}
@@ -6,9 +7,6 @@ use Prim.Native.Nat.{ℕ, ◌<◌}
 use lib.Dec.{ltb}
 use lib.ListN.{length}
 use borrow.Author.Tests.{ltb-true}
-use Rattle.search.specs.declared.Found.{Found}
-use Rattle.search.specs.declared.Found.TheVariants.{At, Nothing}
-use Rattle.search.specs.Search.{is_found}
 use Rattle.world.specs.declared.roster.Roster.{Roster}
 use Rattle.world.specs.declared.execution.Executions.{Executions}
 use Rattle.world.specs.Sizes.{servers, executions_most}
@@ -31,7 +29,7 @@ module _ {r : Roster} {stored m : ℕ} {ts : List Executions} (all : length ts �
       let P : Ruling → Type 0 = Keeps r stored m ts s h s in
       musts P (member r server) _ _ f λ mine.
       musts P (faulty r server) _ _ f λ bad.
-      musts P (not (is_found (execution_of b.executions id))) _ _ f λ none.
+      musts P (not (is_some (execution_of b.executions id))) _ _ f λ none.
       musts P (ltb b.executions.count executions_most) _ _ f λ room.
       let q = at mine in
       rw q
@@ -40,16 +38,16 @@ module _ {r : Roster} {stored m : ℕ} {ts : List Executions} (all : length ts �
       (λ good. apart (faulty r server) bad (not_out (faulty r server) (and2 (member r server) (not (faulty r server)) good).1)))
 
   module _ {s h x : ℕ} {b : Boxes} (seated : s < servers) (named : x < servers) (f : Fits r stored m ts s h x b) (server : ℕ) (at : member r server ≡ true → s ≡ server) where
-    received : (digest : List ℕ) (id : ℕ) → member r server ≡ true → member r x ≡ true → (g : Found) → g ≡ execution_of b.executions id
+    received : (digest : List ℕ) (id : ℕ) → member r server ≡ true → member r x ≡ true → (g : Option ℕ) → g ≡ execution_of b.executions id
         → Keeps r stored m ts s h x (forge_receive_found r server digest b g)
     unfolding forge_receive_found forge_receive_to
-    received digest id mine theirs (At k) e =
+    received digest id mine theirs (Some k) e =
         let P : Ruling → Type 0 = Keeps r stored m ts s h x in
         let y = execution_at b.executions k in
         musts P (not (has y.called server)) _ _ f λ _.
         musts P (same_digest y.digest digest) _ _ f λ _.
         recorded_fits f all named theirs server k (found_made b.executions id k (sym e)) (rw (at mine) at seated) mine
-    received digest id mine theirs Nothing e = f
+    received digest id mine theirs None e = f
 
     pub forge_receive_keeps : (sender id : ℕ) (digest : List ℕ) → (member r sender ≡ true → x ≡ sender)
         → Keeps r stored m ts s h x (forge_receive_of r server sender id digest b)

@@ -1,4 +1,5 @@
 -- A deliver step's boxes fit. Assumes nothing.
+use Rattle.std.specs.Prelude.{None, Option, Some}
 use mathlib.Core.Path.{◌≡◌, refl, sym}
 use mathlib.Core.Bool.{true, not}
 use mathlib.Core.List.{List}
@@ -6,8 +7,6 @@ use Prim.Native.Nat.{ℕ, ◌≤◌}
 use native.Mathlib.Omega.{arith}
 use lib.Dec.{eqb, leb}
 use borrow.Author.Tests.{eqb-true, leb-true}
-use Rattle.search.specs.declared.Found.{Found}
-use Rattle.search.specs.declared.Found.TheVariants.{At, Nothing}
 use Rattle.search.proofs.Laws.{found_in}
 use Rattle.world.specs.declared.roster.Roster.{Roster}
 use Rattle.world.specs.declared.execution.Executions.{Executions}
@@ -31,10 +30,10 @@ unfolding stage_sound
 third_number m e s p = leb-true e.number m (and2 (leb 1 e.number) (leb e.number m) (rw s at p)).1
 
 module _ {r : Roster} {stored m : ℕ} {ts : List Executions} {s x : ℕ} {b : Boxes} (f : Fits r stored m ts s s x b) where
-  delivered_at_lem : member r s ≡ true → (g : Found) → g ≡ ready_place b.hold (next_of b.delivered) → Keeps r stored m ts s s x (deliver_found b g)
+  delivered_at_lem : member r s ≡ true → (g : Option ℕ) → g ≡ ready_place b.hold (next_of b.delivered) → Keeps r stored m ts s s x (deliver_found b g)
   unfolding deliver_found
-  delivered_at_lem mine (At k) q =
-      let l = found_in _ hold_places k (At k) q refl in
+  delivered_at_lem mine (Some k) q =
+      let l = found_in _ hold_places k (Some k) q refl in
       let e = entry_at b.hold k in
       let a = and2 (eqb e.stage 3) (eqb e.number (next_of b.delivered)) (found_at _ hold_places k (sym q)) in
       let st = eqb-true e.stage 3 a.0 in
@@ -45,7 +44,7 @@ module _ {r : Roster} {stored m : ℕ} {ts : List Executions} {s x : ℕ} {b : B
       let done = f.items.most in
       with_delivered_lem (with_hold_lem f _ (entry_freed_lem f.entries k l)) _
       (item_appended _ (omega arith) (omega arith) mine (and_both h.sender h.slot) f.items)
-  delivered_at_lem mine Nothing q = f
+  delivered_at_lem mine None q = f
 
   pub deliver_keeps : (server : ℕ) → (member r server ≡ true → s ≡ server) → Keeps r stored m ts s s x (deliver_of r server b)
   unfolding deliver_of

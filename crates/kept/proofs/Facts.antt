@@ -1,4 +1,5 @@
 -- Soundness as facts: a record for each kind of box, and one for the whole world. Assumes nothing.
+use Rattle.std.specs.Prelude.{is_some}
 use mathlib.Core.Path.{◌≡◌}
 use mathlib.Core.Logic.{◌≢◌}
 use mathlib.Core.Bool.{true, false, ◌||◌}
@@ -10,7 +11,7 @@ use lib.Dec.{eqb, ltb, leb}
 use lib.ListN.{length, get_or, set}
 use lib.Seq.{get_or-set_same, get_or-set_other}
 use borrow.Author.Tests.{eq-eqb, eqb-true, ne_eqb, leb-true, le-leb, ltb-true, lt-ltb}
-use Rattle.search.specs.Search.{is_found, every, count}
+use Rattle.search.specs.Search.{every, count}
 use Rattle.fips180.specs.Digest.{digest_bytes}
 use Rattle.world.specs.declared.World.{World}
 use Rattle.world.specs.declared.roster.Roster.{Roster}
@@ -179,14 +180,14 @@ pub record Held (r : Roster) (stored m x : ℕ) (t : Executions) (e : Entry) : T
   pub holder : member r x ≡ true
   pub sender : member r e.sending.sender ≡ true
   pub slot : ltb e.sending.slot stored ≡ true
-  pub named : 1 < e.stage → is_found (own_execution t e.sending) ≡ true
+  pub named : 1 < e.stage → is_some (own_execution t e.sending) ≡ true
   pub number : stage_sound m e ≡ true
 
 pub entry_out : (r : Roster) (stored m x : ℕ) (t : Executions) (e : Entry) → e.stage ≢ 0 → entry_sound r stored m x t e ≡ true → Held r stored m x t e
 unfolding entry_sound
 entry_out r stored m x t e d p =
     let a =
-    and5 (leb e.stage 3) (member r x) (names r stored e.sending) (implies (ltb 1 e.stage) (is_found (own_execution t e.sending))) (stage_sound m e)
+    and5 (leb e.stage 3) (member r x) (names r stored e.sending) (implies (ltb 1 e.stage) (is_some (own_execution t e.sending))) (stage_sound m e)
     (rw (ne_eqb e.stage 0 d) at p)
     in
     let b = and2 (member r e.sending.sender) (ltb e.sending.slot stored) a.2 in
@@ -195,7 +196,7 @@ entry_out r stored m x t e d p =
       holder = a.1;
       sender = b.0;
       slot = b.1;
-      named = λ h. implies_out (ltb 1 e.stage) (is_found (own_execution t e.sending)) a.3 (lt-ltb 1 e.stage h);
+      named = λ h. implies_out (ltb 1 e.stage) (is_some (own_execution t e.sending)) a.3 (lt-ltb 1 e.stage h);
       number = a.4;
     }
 
@@ -206,7 +207,7 @@ entry_in r stored m x t e d p =
     (and_both
     (and_both
     (and_both (and_both (le-leb e.stage 3 p.stage) p.holder) (and_both p.sender p.slot))
-    (implies_in (ltb 1 e.stage) (is_found (own_execution t e.sending)) (λ h. p.named (ltb-true 1 e.stage h))))
+    (implies_in (ltb 1 e.stage) (is_some (own_execution t e.sending)) (λ h. p.named (ltb-true 1 e.stage h))))
     p.number)
 
 -- delivered items

@@ -1,10 +1,10 @@
 -- A forged packet's boxes fit. Assumes nothing.
+use Rattle.std.specs.Prelude.{is_some}
 use mathlib.Core.Path.{◌≡◌}
 use mathlib.Core.Bool.{true, ◌&&◌}
 use mathlib.Core.List.{List}
 use Prim.Native.Nat.{ℕ}
 use lib.Dec.{ltb}
-use Rattle.search.specs.Search.{is_found}
 use Rattle.world.specs.declared.roster.Roster.{Roster}
 use Rattle.world.specs.declared.execution.Executions.{Executions}
 use Rattle.world.specs.declared.sending.Sending.{Sending}
@@ -25,7 +25,7 @@ module _ {r : Roster} {stored m : ℕ} {ts : List Executions} {s h x : ℕ} {b :
       musts P (member r from && member r to && member r sender) _ _ f λ a.
       musts P (faulty r from) _ _ f λ _.
       musts P (ltb slot b.stored) _ _ f λ there.
-      musts P (is_found (free_outgoing b.outgoing)) _ _ f λ _.
+      musts P (is_some (free_outgoing b.outgoing)) _ _ f λ _.
       let k = and3 (member r from) (member r to) (member r sender) a in
       let sending : Sending = record { id = id; sender = sender; slot = slot } in
       with_outgoing_lem f _

@@ -1,4 +1,5 @@
 -- A box stays sound where more requests are stored, more numbers are given and more executions are made. Assumes nothing.
+use Rattle.std.specs.Prelude.{None, Option, is_some}
 use mathlib.Core.Path.{◌≡◌, refl, ◌∙◌}
 use mathlib.Core.Bool.{Bool, true, false, cond}
 use mathlib.Core.List.{List}
@@ -7,9 +8,6 @@ use native.Mathlib.Omega.{arith}
 use lib.Count.{ones}
 use lib.Dec.{eqb, ltb, leb}
 use borrow.Author.Tests.{eqb-false, leb-true, le-leb, ltb-true, lt-ltb}
-use Rattle.search.specs.declared.Found.{Found}
-use Rattle.search.specs.declared.Found.TheVariants.{Nothing}
-use Rattle.search.specs.Search.{is_found}
 use Rattle.world.specs.declared.roster.Roster.{Roster}
 use Rattle.world.specs.declared.execution.Execution.{Execution}
 use Rattle.world.specs.declared.execution.Executions.{Executions}
@@ -81,9 +79,9 @@ packets_more {r} {stored} {more} {x} h f = record { size = f.size; places = λ k
 
 -- no execution is lost
 abbrev pub Grows : Executions → Executions → Type 0
-Grows t u = (id : ℕ) → is_found (execution_of t id) ≡ true → is_found (execution_of u id) ≡ true
+Grows t u = (id : ℕ) → is_some (execution_of t id) ≡ true → is_some (execution_of u id) ≡ true
 
-own_by : (b : Bool) (f g : Found) → (is_found f ≡ true → is_found g ≡ true) → is_found (cond b f Nothing) ≡ true → is_found (cond b g Nothing) ≡ true
+own_by : (b : Bool) (f g : Option ℕ) → (is_some f ≡ true → is_some g ≡ true) → is_some (cond b f None) ≡ true → is_some (cond b g None) ≡ true
 own_by true f g h e = h e
 own_by false f g h e = e
 

@@ -1,4 +1,5 @@
 -- The orderer: an execution made and a call recorded leave boxes that fit. Assumes nothing.
+use Rattle.std.specs.Prelude.{Some, is_some}
 use mathlib.Core.Path.{◌≡◌, refl, sym, ap, ◌∙◌}
 use mathlib.Core.Logic.{◌≢◌}
 use mathlib.Core.Bool.{true, false, not, ◌&&◌}
@@ -9,8 +10,6 @@ use lib.Dec.{eqb, ltb}
 use lib.ListN.{length, get_or, set, length-set}
 use lib.Seq.{get_or-set_same, get_or-set_other}
 use borrow.Author.Tests.{eq-eqb, ne_eqb, eqb-true, eqb-false, ltb-true, lt-ltb, le-ltb}
-use Rattle.search.specs.declared.Found.TheVariants.{At}
-use Rattle.search.specs.Search.{is_found}
 use Rattle.search.proofs.Laws.{found_in}
 use Rattle.world.specs.declared.roster.Roster.{Roster}
 use Rattle.world.specs.declared.execution.Execution.{Execution}
@@ -44,10 +43,10 @@ grows_by t u h id p =
     any_in (λ (k : ℕ). ltb k u.count && eqb (execution_at u k).id id) executions_most k l (rw (lt-ltb k u.count g.0) (eq-eqb (execution_at u k).id id (g.1 ∙ e)))
 
 -- what is found is in use, and where nothing is found no id is equal
-pub found_made : (t : Executions) (id k : ℕ) → execution_of t id ≡ At k → k < t.count
+pub found_made : (t : Executions) (id k : ℕ) → execution_of t id ≡ Some k → k < t.count
 found_made t id k e = ltb-true k t.count (and2 (ltb k t.count) (eqb (execution_at t k).id id) (found_at _ executions_most k e)).0
 
-pub not_found : (t : Executions) (id j : ℕ) → is_found (execution_of t id) ≡ false → t.count ≤ executions_most → j < t.count → (execution_at t j).id ≢ id
+pub not_found : (t : Executions) (id j : ℕ) → is_some (execution_of t id) ≡ false → t.count ≤ executions_most → j < t.count → (execution_at t j).id ≢ id
 not_found t id j e m l =
     eqb-false (execution_at t j).id id (rw (lt-ltb j t.count l) at (any_none (λ (k : ℕ). ltb k t.count && eqb (execution_at t k).id id) executions_most j e (omega arith)))
 
@@ -220,7 +219,7 @@ module _ {r : Roster} {stored m : ℕ} {ts : List Executions} {server holder x :
       (place_unused r b.numbered x c c _ (le-ltb c c (omega arith)) (f.table.places c room)) (λ z. absurd (omega arith))
 
   -- which can then be found
-  pub made_found : (id : ℕ) (digest : List ℕ) → b.executions.count < executions_most → is_found (execution_of (made r x id digest b).executions id) ≡ true
+  pub made_found : (id : ℕ) (digest : List ℕ) → b.executions.count < executions_most → is_some (execution_of (made r x id digest b).executions id) ≡ true
   unfolding made
   made_found id digest room =
       let c = b.executions.count in

@@ -1,4 +1,5 @@
 -- What a change at one place does to sound boxes: an entry, a packet or an item put there. Assumes nothing.
+use Rattle.std.specs.Prelude.{None, Option, Some, is_some}
 use mathlib.Core.Path.{◌≡◌, refl, ◌∙◌}
 use mathlib.Core.Logic.{◌≢◌}
 use mathlib.Core.Bool.{true, not}
@@ -8,9 +9,6 @@ use native.Mathlib.Omega.{arith}
 use lib.Dec.{eqb, ltb}
 use lib.ListN.{length-set}
 use borrow.Author.Tests.{le-leb, lt-ltb}
-use Rattle.search.specs.declared.Found.{Found}
-use Rattle.search.specs.declared.Found.TheVariants.{At, Nothing}
-use Rattle.search.specs.Search.{is_found}
 use Rattle.search.proofs.Laws.{found_in}
 use Rattle.world.specs.declared.roster.Roster.{Roster}
 use Rattle.world.specs.declared.execution.Executions.{Executions}
@@ -43,13 +41,13 @@ module _ (r : Roster) (stored m x : ℕ) (t : Executions) (mine : member r x ≡
       entry_in r stored m x t (entry_of 1 s 0) (λ z. omega arith)
       (record { stage = omega arith; holder = mine; sender = named_by.0; slot = named_by.1; named = λ h. absurd (omega arith); number = refl })
 
-  pub second_entry : is_found (own_execution t s) ≡ true → entry_sound r stored m x t (entry_of 2 s 0) ≡ true
+  pub second_entry : is_some (own_execution t s) ≡ true → entry_sound r stored m x t (entry_of 2 s 0) ≡ true
   unfolding stage_sound
   second_entry found =
       entry_in r stored m x t (entry_of 2 s 0) (λ z. omega arith)
       (record { stage = omega arith; holder = mine; sender = named_by.0; slot = named_by.1; named = λ h. found; number = refl })
 
-  pub third_entry : (number : ℕ) → number ≢ 0 → number ≤ m → is_found (own_execution t s) ≡ true
+  pub third_entry : (number : ℕ) → number ≢ 0 → number ≤ m → is_some (own_execution t s) ≡ true
       → entry_sound r stored m x t (entry_of 3 s number) ≡ true
   unfolding stage_sound
   third_entry number some low found =
@@ -81,10 +79,10 @@ module _ {r : Roster} {stored m : ℕ} {ts : List Executions} {x : ℕ} {h : Hol
   pub entry_freed_lem : (k : ℕ) → k < hold_places → Entries r stored m ts x (entry_freed h k)
   entry_freed_lem k p = entry_put_lem k free_entry p (free_sound _)
 
-  kept_at : (e : Entry) → entry_sound r stored m x (table_of ts e.sending.sender) e ≡ true → (g : Found) → g ≡ free_hold h → Entries r stored m ts x (entry_added_at h e g)
+  kept_at : (e : Entry) → entry_sound r stored m x (table_of ts e.sending.sender) e ≡ true → (g : Option ℕ) → g ≡ free_hold h → Entries r stored m ts x (entry_added_at h e g)
   unfolding entry_added_at
-  kept_at e s (At k) q = entry_put_lem k e (found_in _ hold_places k (At k) q refl) s
-  kept_at e s Nothing q = f
+  kept_at e s (Some k) q = entry_put_lem k e (found_in _ hold_places k (Some k) q refl) s
+  kept_at e s None q = f
 
   pub entry_kept : (e : Entry) → entry_sound r stored m x (table_of ts e.sending.sender) e ≡ true → Entries r stored m ts x (entry_added h e)
   unfolding entry_added
@@ -116,10 +114,10 @@ module _ {r : Roster} {stored x : ℕ} where
   unfolding packet_sound
   packet_packet_freed f k l = packet_put_lem f k free_packet l refl
 
-  packet_added_at_lem : {o : Outgoing} → Packets r stored x o → (p : Packet) → packet_sound r stored x p ≡ true → (g : Found) → g ≡ free_outgoing o → Packets r stored x (packet_added_at o p g)
+  packet_added_at_lem : {o : Outgoing} → Packets r stored x o → (p : Packet) → packet_sound r stored x p ≡ true → (g : Option ℕ) → g ≡ free_outgoing o → Packets r stored x (packet_added_at o p g)
   unfolding packet_added_at
-  packet_added_at_lem f p s (At k) q = packet_put_lem f k p (found_in _ outgoing_places k (At k) q refl) s
-  packet_added_at_lem f p s Nothing q = f
+  packet_added_at_lem f p s (Some k) q = packet_put_lem f k p (found_in _ outgoing_places k (Some k) q refl) s
+  packet_added_at_lem f p s None q = f
 
   pub packet_packet_added : {o : Outgoing} → Packets r stored x o → (p : Packet) → packet_sound r stored x p ≡ true → Packets r stored x (packet_added o p)
   unfolding packet_added

@@ -1,4 +1,5 @@
 -- The boxes of a propose step and of a settle step fit. Assumes nothing.
+use Rattle.std.specs.Prelude.{None, Option, Some, is_some}
 use mathlib.Core.Path.{◌≡◌, refl, sym, ap, subst, ◌∙◌}
 use mathlib.Core.Logic.{◌≢◌}
 use mathlib.Core.Bool.{true, not}
@@ -9,9 +10,6 @@ use lib.Dec.{eqb, leb}
 use lib.ListN.{length, get_or, set}
 use lib.Seq.{get_or-set_same}
 use borrow.Author.Tests.{ltb-true, lt-ltb, eqb-true, eqb-false}
-use Rattle.search.specs.declared.Found.{Found}
-use Rattle.search.specs.declared.Found.TheVariants.{At, Nothing}
-use Rattle.search.specs.Search.{is_found}
 use Rattle.world.specs.declared.roster.Roster.{Roster}
 use Rattle.world.specs.declared.execution.Executions.{Executions}
 use Rattle.world.specs.declared.sending.Sending.{Sending}
@@ -37,12 +35,12 @@ use Rattle.kept.proofs.Putting.{Fits, Keeps, with_hold_lem, with_outgoing_lem}
 
 -- a sending's execution, in its sender's table
 pub own_found : (ts : List Executions) (x : ℕ) (t : Executions) (s : Sending) → length ts ≡ servers → x ≡ s.sender
-    → s.sender < servers → is_found (execution_of t s.id) ≡ true
-    → is_found (own_execution (table_of (set ts x t) s.sender) s) ≡ true
+    → s.sender < servers → is_some (execution_of t s.id) ≡ true
+    → is_some (own_execution (table_of (set ts x t) s.sender) s) ≡ true
 own_found ts x t s all e l p =
     let a : get_or (set ts x t) s.sender no_table ≡ t =
     ap (λ (k : ℕ). get_or (set ts x t) k no_table) (sym e) ∙ get_or-set_same ts x t no_table (omega arith) in
-    rw (lt-ltb s.sender servers l) (subst (λ (v : Executions). is_found (execution_of v s.id) ≡ true) (sym a) p)
+    rw (lt-ltb s.sender servers l) (subst (λ (v : Executions). is_some (execution_of v s.id) ≡ true) (sym a) p)
 
 module _ {r : Roster} (few : r.n ≤ servers) {stored m : ℕ} {ts : List Executions} (all : length ts ≡ servers) {s x : ℕ} {b : Boxes}
     (f : Fits r stored m ts s s x b) (place : ℕ) (own : x ≡ seat (entry_at b.hold place).sending.sender) where
@@ -67,7 +65,7 @@ module _ {r : Roster} (few : r.n ≤ servers) {stored m : ℕ} {ts : List Execut
   dropped_fits : Used → Keeps r stored m ts s s x (dropped_at place b)
   dropped_fits u = with_hold_lem f _ (entry_freed_lem f.entries place u.within)
 
-  second_fits : Used → is_found (execution_of b.executions e.sending.id) ≡ true → Fits r stored m ts s s x (raised place 2 0 b)
+  second_fits : Used → is_some (execution_of b.executions e.sending.id) ≡ true → Fits r stored m ts s s x (raised place 2 0 b)
   unfolding e
   second_fits u found =
       with_hold_lem f _
@@ -76,10 +74,10 @@ module _ {r : Roster} (few : r.n ≤ servers) {stored m : ℕ} {ts : List Execut
       (own_found ts x b.executions e.sending all u.whose u.below found)))
 
   -- propose
-  proposed : (server : ℕ) → member r server ≡ true → server < servers → Used → (g : Found) → g ≡ execution_of b.executions (entry_at b.hold place).sending.id
+  proposed : (server : ℕ) → member r server ≡ true → server < servers → Used → (g : Option ℕ) → g ≡ execution_of b.executions (entry_at b.hold place).sending.id
       → Keeps r stored m ts s s x (propose_found r server place b g)
   unfolding propose_found propose_to e
-  proposed server mine l u (At k) q =
+  proposed server mine l u (Some k) q =
       let P : Ruling → Type 0 = Keeps r stored m ts s s x in
       let y = execution_at b.executions k in
       let second = second_fits u (rw (← q)) in
@@ -88,7 +86,7 @@ module _ {r : Roster} (few : r.n ≤ servers) {stored m : ℕ} {ts : List Execut
       musts P (same_digest b.request.digest y.digest) _ _ (dropped_fits u) λ _.
       recorded_fits second all (rw u.whose u.below) (rw u.whose u.held.sender) server k
       (found_made b.executions (entry_at b.hold place).sending.id k (sym q)) l mine
-  proposed server mine l u Nothing q = f
+  proposed server mine l u None q = f
 
   pub propose_keeps : (server : ℕ) → s < servers → (member r server ≡ true → s ≡ server) → Keeps r stored m ts s s x (propose_of r server place b)
   unfolding propose_of
@@ -100,9 +98,9 @@ module _ {r : Roster} (few : r.n ≤ servers) {stored m : ℕ} {ts : List Execut
       proposed server mine (rw (at mine) at seated) (used 1 (λ z. omega arith) (eqb-true (entry_at b.hold place).stage 1 stage)) _ refl
 
   -- settle
-  settled : (server : ℕ) → Used → (g : Found) → g ≡ execution_of b.executions (entry_at b.hold place).sending.id → Keeps r stored m ts s s x (settle_found r server place b g)
+  settled : (server : ℕ) → Used → (g : Option ℕ) → g ≡ execution_of b.executions (entry_at b.hold place).sending.id → Keeps r stored m ts s s x (settle_found r server place b g)
   unfolding settle_found settle_to e
-  settled server u (At k) q =
+  settled server u (Some k) q =
       let P : Ruling → Type 0 = Keeps r stored m ts s s x in
       let y = execution_at b.executions k in
       let c = found_made b.executions (entry_at b.hold place).sending.id k (sym q) in
@@ -123,7 +121,7 @@ module _ {r : Roster} (few : r.n ≤ servers) {stored m : ℕ} {ts : List Execut
       musts P (leb (needed r y.mask server) (free_places b.outgoing)) _ _ f λ _.
       with_outgoing_lem third _
       (packets_sent u.held.holder h.sending good y.mask server f.packets)
-  settled server u Nothing q = f
+  settled server u None q = f
 
   pub settle_keeps : (server : ℕ) → Keeps r stored m ts s s x (settle_of r server place b)
   unfolding settle_of

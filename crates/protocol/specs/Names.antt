@@ -1,7 +1,5 @@
 -- What the sendings of packets, entries and items name: servers, slots and executions.
-use Rattle.std.specs.Prelude.{ℕ, Bool, cond, ◌&&◌, List, ltb, get_or}
-use Rattle.search.specs.declared.Found.{Found}
-use Rattle.search.specs.declared.Found.TheVariants.{Nothing}
+use Rattle.std.specs.Prelude.{ℕ, Bool, cond, ◌&&◌, List, ltb, get_or, None, Option}
 use Rattle.world.specs.declared.roster.Roster.{Roster}
 use Rattle.world.specs.declared.execution.Executions.{Executions}
 use Rattle.world.specs.declared.sending.Sending.{Sending}
@@ -19,5 +17,5 @@ abbrev pub table_of : List Executions → ℕ → Executions
 table_of ts sender = get_or ts (seat sender) no_table
 
 -- the execution of a sending, looked for among its sender's; past the eight there is no sender
-abbrev pub own_execution : Executions → Sending → Found
-own_execution t s = cond (ltb s.sender servers) (execution_of t s.id) Nothing
+abbrev pub own_execution : Executions → Sending → Option ℕ
+own_execution t s = cond (ltb s.sender servers) (execution_of t s.id) None

@@ -1,6 +1,5 @@
 -- The order of tests, as promises about three rules (proofs/Order): where two fail, the earlier one gives the answer.
-use Rattle.std.specs.Prelude.{◌≡◌, true, List, ℕ, ◌<◌, ◌≤◌}
-use Rattle.search.specs.declared.Found.TheVariants.{At}
+use Rattle.std.specs.Prelude.{◌≡◌, true, List, ℕ, ◌<◌, ◌≤◌, Some}
 use Rattle.world.specs.declared.roster.Roster.{Roster}
 use Rattle.world.specs.declared.outgoing.Packet.{Packet}
 use Rattle.world.specs.Sizes.{executions_most}
@@ -31,6 +30,6 @@ EqualFirst =
 abbrev pub RecallFirst : Type 0
 RecallFirst =
     (r : Roster) (server sender id k : ℕ) (digest : List ℕ) (b : Boxes) → member r server ≡ true
-    → member r sender ≡ true → faulty r server ≡ true → execution_of b.executions id ≡ At k
+    → member r sender ≡ true → faulty r server ≡ true → execution_of b.executions id ≡ Some k
     → has (execution_at b.executions k).called server ≡ true
     → forge_receive_of r server sender id digest b ≡ answered Recall b

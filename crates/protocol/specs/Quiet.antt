@@ -1,10 +1,8 @@
 -- Document 01, "Quiet": nothing is under way to a correct server, and no correct server has an entry that it could go
 -- on with: one that it could propose (its execution is there), settle (it is numbered) or deliver (it has the next
 -- number). Whether there is room for that step is not asked.
-use Rattle.std.specs.Prelude.{ℕ, ◌<◌, ◌≡◌, Bool, true, false, not, ◌&&◌, ◌||◌, List, eqb}
-use Rattle.search.specs.declared.Found.{Found}
-use Rattle.search.specs.declared.Found.TheVariants.{At, Nothing}
-use Rattle.search.specs.Search.{is_found, every}
+use Rattle.std.specs.Prelude.{ℕ, ◌<◌, ◌≡◌, Bool, true, false, not, ◌&&◌, ◌||◌, List, eqb, None, Option, Some, is_some}
+use Rattle.search.specs.Search.{every}
 use Rattle.world.specs.declared.World.{World}
 use Rattle.world.specs.declared.execution.Executions.{Executions}
 use Rattle.world.specs.declared.outgoing.Outgoing.{Outgoing}
@@ -25,14 +23,14 @@ unfoldable pub outgoing_quiet : Roster → Outgoing → Bool
 outgoing_quiet r o = every (λ (k : ℕ). not ((packet_at o k).there && correct r (packet_at o k).to)) outgoing_places
 
 -- whether an execution that was looked for is numbered
-abbrev pub is_numbered : Executions → Found → Bool
-is_numbered t (At k) = not (eqb (execution_at t k).number 0)
-is_numbered t Nothing = false
+abbrev pub is_numbered : Executions → Option ℕ → Bool
+is_numbered t (Some k) = not (eqb (execution_at t k).number 0)
+is_numbered t None = false
 
 -- an entry with which its server could go on, whose next number is given
 unfoldable pub stirs : Executions → ℕ → Entry → Bool
 stirs t next e =
-    (eqb e.stage 1 && is_found (own_execution t e.sending))
+    (eqb e.stage 1 && is_some (own_execution t e.sending))
     || (eqb e.stage 2 && is_numbered t (own_execution t e.sending))
     || (eqb e.stage 3 && eqb e.number next)
 

@@ -1,10 +1,7 @@
 -- Document 01, "Steps, with tests in order": a rule for each kind, its tests in the document's order. A test is `must
 -- WHAT-HOLDS ANSWER-IF-NOT NEXT`. A rule speaks of the boxes that its step touches; which ones these are is in
 -- `Steps`.
-use Rattle.std.specs.Prelude.{ℕ, ◌+◌, Bool, not, ◌&&◌, ◌||◌, List, eqb, ltb, leb, replicate}
-use Rattle.search.specs.declared.Found.{Found}
-use Rattle.search.specs.declared.Found.TheVariants.{At, Nothing}
-use Rattle.search.specs.Search.{is_found}
+use Rattle.std.specs.Prelude.{ℕ, ◌+◌, Bool, not, ◌&&◌, ◌||◌, List, eqb, ltb, leb, replicate, None, Option, Some, is_some}
 use Rattle.fips180.specs.Sha256.{digest_of}
 use Rattle.fips180.specs.Digest.{digest_bytes}
 use Rattle.world.specs.declared.roster.Roster.{Roster}
@@ -135,7 +132,7 @@ multicast_done r server slot b =
     (sent r nobody server s b.outgoing)
 
 abbrev pub roomy : Roster → ℕ → Boxes → Bool
-roomy r server b = leb (needed r nobody server) (free_places b.outgoing) && is_found (free_hold b.hold)
+roomy r server b = leb (needed r nobody server) (free_places b.outgoing) && is_some (free_hold b.hold)
 
 unfoldable pub multicast_of : Roster → ℕ → ℕ → Boxes → Ruling
 multicast_of r server slot b =
@@ -156,7 +153,7 @@ arrive_of r origin place b =
     must (member r origin) (answered BadServer b)
     (must p.there (answered NoSuch b)
     (must (not (faulty r p.to || holding b.hold p.sending)) (answered Dropped rest)
-    (must (is_found (free_hold b.hold)) (answered NoRoom b)
+    (must (is_some (free_hold b.hold)) (answered NoRoom b)
     (answered Done (with_hold rest (entry_added b.hold (entry_of 1 p.sending 0)))))))
 
 -- an entry at a later stage; and freed, which drops the step
@@ -178,9 +175,9 @@ propose_to r server place k b =
     (must (same_digest b.request.digest x.digest) (dropped_at place b)
     (answered Done (recorded r server k (raised place 2 0 b)))))
 
-unfoldable pub propose_found : Roster → ℕ → ℕ → Boxes → Found → Ruling
-propose_found r server place b (At k) = propose_to r server place k b
-propose_found r server place b Nothing = answered Wait b
+unfoldable pub propose_found : Roster → ℕ → ℕ → Boxes → Option ℕ → Ruling
+propose_found r server place b (Some k) = propose_to r server place k b
+propose_found r server place b None = answered Wait b
 
 unfoldable pub propose_of : Roster → ℕ → ℕ → Boxes → Ruling
 propose_of r server place b =
@@ -204,9 +201,9 @@ settle_to r server place k b =
     (must (leb (needed r x.mask server) (free_places b.outgoing)) (answered NoRoom b)
     (answered Done (with_outgoing third (sent r x.mask server e.sending b.outgoing))))))
 
-unfoldable pub settle_found : Roster → ℕ → ℕ → Boxes → Found → Ruling
-settle_found r server place b (At k) = settle_to r server place k b
-settle_found r server place b Nothing = answered Wait b
+unfoldable pub settle_found : Roster → ℕ → ℕ → Boxes → Option ℕ → Ruling
+settle_found r server place b (Some k) = settle_to r server place k b
+settle_found r server place b None = answered Wait b
 
 unfoldable pub settle_of : Roster → ℕ → ℕ → Boxes → Ruling
 settle_of r server place b =
@@ -218,11 +215,11 @@ settle_of r server place b =
 
 -- Deliver, by a correct server: WAIT where no entry at stage three has its next number; else the lowest of them leaves
 -- its place, and its sending is the next delivered item.
-unfoldable pub deliver_found : Boxes → Found → Ruling
-deliver_found b (At k) =
+unfoldable pub deliver_found : Boxes → Option ℕ → Ruling
+deliver_found b (Some k) =
     let e = entry_at b.hold k in
     answered Done (with_delivered (with_hold b (entry_freed b.hold k)) (appended b.delivered e.sending))
-deliver_found b Nothing = answered Wait b
+deliver_found b None = answered Wait b
 
 unfoldable pub deliver_of : Roster → ℕ → Boxes → Ruling
 deliver_of r server b =
@@ -238,7 +235,7 @@ forge_packet_of r from to sender id slot b =
     must (member r from && member r to && member r sender) (answered BadServer b)
     (must (faulty r from) (answered WrongSide b)
     (must (ltb slot b.stored) (answered NoSuch b)
-    (must (is_found (free_outgoing b.outgoing)) (answered NoRoom b)
+    (must (is_some (free_outgoing b.outgoing)) (answered NoRoom b)
     (answered Done (with_outgoing b (packet_added b.outgoing (packet_for to s)))))))
 
 -- Forge send, by a faulty server: an execution of its own with any digest. RECALL for an id that it has, QUOTA after
@@ -247,7 +244,7 @@ unfoldable pub forge_send_of : Roster → ℕ → ℕ → List ℕ → Boxes →
 forge_send_of r server id digest b =
     must (member r server) (answered BadServer b)
     (must (faulty r server) (answered WrongSide b)
-    (must (not (is_found (execution_of b.executions id))) (answered Recall b)
+    (must (not (is_some (execution_of b.executions id))) (answered Recall b)
     (must (ltb b.executions.count executions_most) (answered Quota b)
     (answered Done (made r server id digest b)))))
 
@@ -260,9 +257,9 @@ forge_receive_to r server digest k b =
     (must (same_digest x.digest digest) (answered WrongDigest b)
     (answered Done (recorded r server k b)))
 
-unfoldable pub forge_receive_found : Roster → ℕ → List ℕ → Boxes → Found → Ruling
-forge_receive_found r server digest b (At k) = forge_receive_to r server digest k b
-forge_receive_found r server digest b Nothing = answered Unknown b
+unfoldable pub forge_receive_found : Roster → ℕ → List ℕ → Boxes → Option ℕ → Ruling
+forge_receive_found r server digest b (Some k) = forge_receive_to r server digest k b
+forge_receive_found r server digest b None = answered Unknown b
 
 unfoldable pub forge_receive_of : Roster → ℕ → ℕ → ℕ → List ℕ → Boxes → Ruling
 forge_receive_of r server sender id digest b =

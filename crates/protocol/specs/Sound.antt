@@ -1,7 +1,7 @@
 -- Document 01, "Refusing a whole schedule": what a sound world is, box by box, in the document's order within each box.
-use Rattle.std.specs.Prelude.{ℕ, ◌+◌, ◌*◌, ◌/◌, ◌%◌, Bool, cond, not, ◌&&◌, ◌||◌, List, eqb, ltb, leb}
+use Rattle.std.specs.Prelude.{ℕ, ◌+◌, ◌*◌, ◌/◌, ◌%◌, Bool, cond, not, ◌&&◌, ◌||◌, List, eqb, ltb, leb, is_some}
 use Rattle.std.specs.Int.Count.{ones}
-use Rattle.search.specs.Search.{is_found, every, count}
+use Rattle.search.specs.Search.{every, count}
 use Rattle.search.specs.Tests.{implies}
 use Rattle.fips180.specs.Sha256.{digest_of}
 use Rattle.world.specs.declared.World.{World}
@@ -107,7 +107,7 @@ unfoldable pub entry_sound : Roster → ℕ → ℕ → ℕ → Executions → E
 entry_sound r stored m server t e =
     cond (eqb e.stage 0) (zero_entry e)
     (leb e.stage 3 && member r server && names r stored e.sending
-    && implies (ltb 1 e.stage) (is_found (own_execution t e.sending)) && stage_sound m e)
+    && implies (ltb 1 e.stage) (is_some (own_execution t e.sending)) && stage_sound m e)
 
 -- the entries of one server
 unfoldable pub hold_sound : Roster → ℕ → ℕ → List Executions → ℕ → Hold → Bool

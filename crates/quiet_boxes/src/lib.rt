@@ -6,7 +6,6 @@ ghost use Rattle.world.specs.Roster.{correct};
 ghost use Rattle.protocol.specs.Names.{own_execution};
 ghost use Rattle.protocol.specs.Quiet.{outgoing_quiet, is_numbered, stirs, hold_quiet};
 
-use search::Found;
 use sound_names::{has_execution, is_correct, own_execution, seat};
 use world::{Entry, Execution, Executions, Hold, Outgoing, Roster, Sending, World};
 
@@ -31,7 +30,7 @@ fn outgoing_quiet(roster: Roster, o: Outgoing) -> bool
 fn is_numbered(t: Executions, sending: Sending) -> bool
     ensures { result ≡ is_numbered t (own_execution t sending) }
 {
-    let Found::At(k) = own_execution(t, sending) else {
+    let Some(k) = own_execution(t, sending) else {
         return false;
     };
     t.table[k].number != Execution::UNNUMBERED

@@ -4,7 +4,6 @@ ghost use Rattle.protocol.specs.Rules.{deliver_of};
 
 use crate::boxes::answer;
 use protocol::{Answer, Boxes, Ruling};
-use search::Found;
 use world::{Entry, Roster};
 
 // A correct server delivers the entry that has its next number.
@@ -17,7 +16,7 @@ pub fn deliver(roster: Roster, server: u8, b: Boxes) -> Ruling
     if roster.is_faulty(server) {
         return answer(b, Answer::WrongSide);
     }
-    let Found::At(k) = b.hold.ready(b.delivered.next()) else {
+    let Some(k) = b.hold.ready(b.delivered.next()) else {
         return answer(b, Answer::Wait);
     };
     let held = b.hold;

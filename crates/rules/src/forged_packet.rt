@@ -4,7 +4,6 @@ ghost use Rattle.protocol.specs.Rules.{forge_packet_of};
 
 use crate::boxes::answer;
 use protocol::{Answer, Boxes, Ruling};
-use search::Found;
 use world::{Packet, Roster, Sending};
 
 // A packet of any content, which may claim any sender.
@@ -28,7 +27,7 @@ pub fn forge_packet(
     if b.stored <= slot {
         return answer(b, Answer::NoSuch);
     }
-    let Found::At(_) = b.outgoing.free() else {
+    let Some(_) = b.outgoing.free() else {
         return answer(b, Answer::NoRoom);
     };
     let o = b

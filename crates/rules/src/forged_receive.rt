@@ -7,7 +7,6 @@ use crate::boxes::answer;
 use crate::orderer::record;
 use fips180::Digest;
 use protocol::{Answer, Boxes, Ruling};
-use search::Found;
 use world::{Roster, has, same_digest};
 
 // The call at an execution that exists.
@@ -44,7 +43,7 @@ pub fn forge_receive(
     if !roster.is_faulty(server) {
         return answer(b, Answer::WrongSide);
     }
-    let Found::At(k) = b.executions.find(id) else {
+    let Some(k) = b.executions.find(id) else {
         return answer(b, Answer::Unknown);
     };
     receive_to(roster, server, digest, k, b)

@@ -6,7 +6,6 @@ use crate::boxes::answer;
 use crate::orderer::make;
 use fips180::Digest;
 use protocol::{Answer, Boxes, Ruling};
-use search::Found;
 use world::{Executions, Roster};
 
 // An execution of its own, with any id and any digest.
@@ -26,7 +25,7 @@ pub fn forge_send(
     if !roster.is_faulty(server) {
         return answer(b, Answer::WrongSide);
     }
-    let Found::Nothing = b.executions.find(id) else {
+    let None = b.executions.find(id) else {
         return answer(b, Answer::Recall);
     };
     if Executions::MOST <= b.executions.count as usize {

@@ -7,7 +7,6 @@ use crate::boxes::answer;
 use crate::holding::{drop_entry, raise};
 use crate::orderer::record;
 use protocol::{Answer, Boxes, Ruling};
-use search::Found;
 use world::{Entry, Roster, has, same_digest};
 
 // The proposal at an execution that exists.
@@ -48,7 +47,7 @@ pub fn propose(roster: Roster, server: u8, place: u8, b: Boxes) -> Ruling
     if e.stage != Entry::ONE {
         return answer(b, Answer::NoSuch);
     }
-    let Found::At(k) = b.executions.find(e.sending.id) else {
+    let Some(k) = b.executions.find(e.sending.id) else {
         return answer(b, Answer::Wait);
     };
     propose_to(roster, server, place, k, b)

@@ -6,7 +6,6 @@ ghost use Rattle.protocol.specs.Rules.{settle_of, settle_to};
 use crate::boxes::answer;
 use crate::holding::{drop_entry, raise};
 use protocol::{Answer, Boxes, Ruling};
-use search::Found;
 use world::{Entry, Execution, Roster, recipients, same_digest};
 
 // The settling of an entry at an execution that exists.
@@ -51,7 +50,7 @@ pub fn settle(roster: Roster, server: u8, place: u8, b: Boxes) -> Ruling
     if e.stage != Entry::TWO {
         return answer(b, Answer::NoSuch);
     }
-    let Found::At(k) = b.executions.find(e.sending.id) else {
+    let Some(k) = b.executions.find(e.sending.id) else {
         return answer(b, Answer::Wait);
     };
     settle_to(roster, server, place, k, b)

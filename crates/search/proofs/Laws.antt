@@ -1,15 +1,14 @@
 -- The law of a search: its loop's invariant is `Passed t n k`; and that of a count. Assumes nothing.
+use Rattle.std.specs.Prelude.{None, Option, Some, is_some}
 use mathlib.Core.Path.{◌≡◌, refl, sym, ap, ◌∙◌}
 use mathlib.Core.Bool.{Bool, true, false, cond, not}
 use Prim.Native.Nat.{ℕ, zero, suc, ◌+◌, ◌-◌, ◌<◌, ◌≤◌}
 use native.Mathlib.Omega.{arith}
 use native.Mathlib.Numerals.{add-one}
-use Rattle.search.specs.declared.Found.{Found}
-use Rattle.search.specs.declared.Found.TheVariants.{At, Nothing}
-use Rattle.search.specs.Search.{first_from, first, is_found, every, count}
+use Rattle.search.specs.Search.{first_from, first, every, count}
 use Rattle.search.proofs.Booleans.{not_out, not_no}
 
-first_here : (t : ℕ → Bool) (at n : ℕ) → t at ≡ true → first_from t at (suc n) ≡ At at
+first_here : (t : ℕ → Bool) (at n : ℕ) → t at ≡ true → first_from t at (suc n) ≡ Some at
 unfolding first_from
 first_here t at n e = rw e
 
@@ -17,7 +16,7 @@ first_more : (t : ℕ → Bool) (at n : ℕ) → t at ≡ false → first_from t
 unfolding first_from
 first_more t at n e = rw e
 
-first_none : (t : ℕ → Bool) (at : ℕ) → first_from t at 0 ≡ Nothing
+first_none : (t : ℕ → Bool) (at : ℕ) → first_from t at 0 ≡ None
 unfolding first_from
 first_none t at = refl
 
@@ -36,27 +35,27 @@ passed_more t n k p e q =
     let s : n - k ≡ suc (n - (k + 1)) = omega arith in
     record { within = omega arith; same = q.same ∙ rw (s, first_more t k (n - (k + 1)) e) }
 
-pub passed_here : (t : ℕ → Bool) (n k : ℕ) → k < n → t k ≡ true → Passed t n k → At k ≡ first t n
+pub passed_here : (t : ℕ → Bool) (n k : ℕ) → k < n → t k ≡ true → Passed t n k → Some k ≡ first t n
 passed_here t n k p e q =
     let s : n - k ≡ suc (n - (k + 1)) = omega arith in
     sym (q.same ∙ rw s (first_here t k (n - (k + 1)) e))
 
-pub passed_all : (t : ℕ → Bool) (n k : ℕ) → k ≡ n → Passed t n k → Nothing ≡ first t n
+pub passed_all : (t : ℕ → Bool) (n k : ℕ) → k ≡ n → Passed t n k → None ≡ first t n
 passed_all t n k p q =
     let s : n - k ≡ 0 = omega arith in
     sym (q.same ∙ rw s (first_none t k))
 
-in_step : (rest : Found) (at n i : ℕ) (b : Bool) → (rest ≡ At i → i < at + 1 + n) → cond b (At at) rest ≡ At i → i < at + suc n
+in_step : (rest : Option ℕ) (at n i : ℕ) (b : Bool) → (rest ≡ Some i → i < at + 1 + n) → cond b (Some at) rest ≡ Some i → i < at + suc n
 in_step rest at n i true h e = let z : i ≡ at = cc in omega arith
 in_step rest at n i false h e = omega (arith, h e)
 
-in_from : (t : ℕ → Bool) (at n i : ℕ) → first_from t at n ≡ At i → i < at + n
+in_from : (t : ℕ → Bool) (at n i : ℕ) → first_from t at n ≡ Some i → i < at + n
 unfolding first_from
 in_from t at zero i e = let z : ◌≡◌ {A = ℕ} 0 1 = cc in omega arith
 in_from t at (suc n) i e = in_step (first_from t (at + 1) n) at n i (t at) (in_from t (at + 1) n i) e
 
 -- what is found lies among the n places
-pub found_in : (t : ℕ → Bool) (n i : ℕ) (f : Found) → f ≡ first t n → f ≡ At i → i < n
+pub found_in : (t : ℕ → Bool) (n i : ℕ) (f : Option ℕ) → f ≡ first t n → f ≡ Some i → i < n
 found_in t n i f e q = omega (arith, in_from t 0 n i (sym e ∙ q))
 
 -- a count: none yet, one place more at which the test holds or not, and never more than the places
@@ -90,10 +89,10 @@ pub held_more : (t : ℕ → Bool) (n k : ℕ) → k < n → t k ≡ true → He
 held_more t n k p e q = record { passed = passed_more _ n k p (ap not e) q.passed }
 
 pub held_not : (t : ℕ → Bool) (n k : ℕ) → k < n → t k ≡ false → Held t n k → false ≡ every t n
-held_not t n k p e q = ap (λ (f : Found). not (is_found f)) (passed_here _ n k p (ap not e) q.passed)
+held_not t n k p e q = ap (λ (f : Option ℕ). not (is_some f)) (passed_here _ n k p (ap not e) q.passed)
 
 pub held_all : (t : ℕ → Bool) (n k : ℕ) → k ≡ n → Held t n k → true ≡ every t n
-held_all t n k p q = ap (λ (f : Found). not (is_found f)) (passed_all _ n k p q.passed)
+held_all t n k p q = ap (λ (f : Option ℕ). not (is_some f)) (passed_all _ n k p q.passed)
 
 -- the same turns in a loop that is left where the opposite of the test's value holds
 pub held_tested : (t : ℕ → Bool) (n k : ℕ) (b : Bool) → k < n → b ≡ t k → not b ≡ false → Held t n k → Held t n (k + 1)

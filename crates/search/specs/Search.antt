@@ -1,24 +1,18 @@
 -- Searches and counts over places 0, 1, 2, .. by a test: what every loop over places means.
-use Rattle.std.specs.Prelude.{Bool, true, false, cond, not, ℕ, zero, suc, ◌+◌}
-use Rattle.search.specs.declared.Found.{Found}
-use Rattle.search.specs.declared.Found.TheVariants.{At, Nothing}
+use Rattle.std.specs.Prelude.{Bool, true, false, cond, not, ℕ, zero, suc, ◌+◌, is_some, Option, Some, None}
 
 -- the lowest of the n places from `at` on at which the test holds
-unfoldable pub first_from : (ℕ → Bool) → ℕ → ℕ → Found
-first_from t at zero = Nothing
-first_from t at (suc n) = let rest = first_from t (at + 1) n in cond (t at) (At at) rest
+unfoldable pub first_from : (ℕ → Bool) → ℕ → ℕ → Option ℕ
+first_from t at zero = None
+first_from t at (suc n) = let rest = first_from t (at + 1) n in cond (t at) (Some at) rest
 
 -- of the n places from 0 on
-abbrev pub first : (ℕ → Bool) → ℕ → Found
+abbrev pub first : (ℕ → Bool) → ℕ → Option ℕ
 first t n = first_from t 0 n
 
 -- whether there is one
-abbrev pub is_found : Found → Bool
-is_found (At i) = true
-is_found Nothing = false
-
 abbrev pub any : (ℕ → Bool) → ℕ → Bool
-any t n = is_found (first t n)
+any t n = is_some (first t n)
 
 -- whether the test holds at each of them: there is none at which it does not
 abbrev pub every : (ℕ → Bool) → ℕ → Bool

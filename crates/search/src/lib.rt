@@ -1,8 +1,2 @@
-// What a search over places yields. The meaning of such a search, and its law, are in specs/ and proofs/.
+// What a search over places means, and its laws, are in specs/ and proofs/; no code is here.
 #![tactic(auto)]
-
-#[derive(Clone, Copy)]
-pub enum Found {
-    At(usize),
-    Nothing,
-}

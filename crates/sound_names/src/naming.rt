@@ -1,11 +1,9 @@
 // What the sendings of packets, entries and items name: servers, slots and executions.
-ghost use Rattle.std.specs.Prelude.{◌≡◌};
-ghost use Rattle.search.specs.Search.{is_found};
+ghost use Rattle.std.specs.Prelude.{◌≡◌, is_some};
 ghost use Rattle.world.specs.Boxes.{seat};
 ghost use Rattle.world.specs.Roster.{correct};
 ghost use Rattle.protocol.specs.Names.{names, own_execution};
 
-use search::Found;
 use world::{Executions, Roster, Sending};
 
 // Whether the sender is a server and the slot that of a stored request.
@@ -33,20 +31,20 @@ pub fn seat(server: u8) -> usize
 }
 
 // The execution of a sending, among its sender's.
-pub fn own_execution(t: Executions, sending: Sending) -> Found
+pub fn own_execution(t: Executions, sending: Sending) -> Option<usize>
     ensures { result ≡ own_execution t sending }
 {
     if sending.sender < Roster::MOST {
         return t.find(sending.id);
     }
-    Found::Nothing
+    None
 }
 
 // Whether there is such an execution.
 pub fn has_execution(t: Executions, sending: Sending) -> bool
-    ensures { result ≡ is_found (own_execution t sending) }
+    ensures { result ≡ is_some (own_execution t sending) }
 {
-    let Found::At(_) = own_execution(t, sending) else {
+    let Some(_) = own_execution(t, sending) else {
         return false;
     };
     true

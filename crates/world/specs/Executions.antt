@@ -1,6 +1,5 @@
 -- Document 01, "The orderer": the executions of one sender, oldest first.
-use Rattle.std.specs.Prelude.{ℕ, ◌+◌, ◌%◌, ◌^◌, cond, ◌&&◌, List, [], replicate, ◌==◌, count_ones, nat_lt, slice_index_or, slice_set}
-use Rattle.search.specs.declared.Found.{Found}
+use Rattle.std.specs.Prelude.{ℕ, ◌+◌, ◌%◌, ◌^◌, cond, ◌&&◌, List, [], replicate, ◌==◌, count_ones, nat_lt, slice_index_or, slice_set, Option}
 use Rattle.search.specs.Search.{first}
 use Rattle.fips180.specs.Digest.{digest_bytes}
 use Rattle.world.specs.declared.roster.Roster.{Roster}
@@ -33,7 +32,7 @@ abbrev pub execution_added : Executions → Execution → Executions
 execution_added t x = record { table = slice_set t.table t.count x; count = t.count + 1 }
 
 -- an execution is known by its sender and id: the place of the id among the sender's executions
-abbrev pub execution_of : Executions → ℕ → Found
+abbrev pub execution_of : Executions → ℕ → Option ℕ
 execution_of t id = first (λ (k : ℕ). nat_lt k t.count && (execution_at t k).id == id) executions_most
 
 -- the number after m (1, 2, 3, ..), at 32 bits

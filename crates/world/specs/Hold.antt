@@ -1,7 +1,5 @@
 -- Document 01, "Sizes": the entries that one server holds, each new one at the lowest free place.
-use Rattle.std.specs.Prelude.{ℕ, Bool, not, ◌&&◌, replicate, ◌==◌, nat_eq, slice_index_or, slice_set}
-use Rattle.search.specs.declared.Found.{Found}
-use Rattle.search.specs.declared.Found.TheVariants.{At, Nothing}
+use Rattle.std.specs.Prelude.{ℕ, Bool, not, ◌&&◌, replicate, ◌==◌, nat_eq, slice_index_or, slice_set, None, Option, Some}
 use Rattle.search.specs.Search.{first, any}
 use Rattle.world.specs.declared.sending.Sending.{Sending}
 use Rattle.world.specs.declared.hold.Entry.{Entry}
@@ -36,11 +34,11 @@ holding h s = any (λ (k : ℕ). is_entry (entry_at h k) s) hold_places
 abbrev pub is_ready : Entry → ℕ → Bool
 is_ready e number = e.stage == 3 && e.number == number
 
-abbrev pub ready_place : Hold → ℕ → Found
+abbrev pub ready_place : Hold → ℕ → Option ℕ
 ready_place h number = first (λ (k : ℕ). is_ready (entry_at h k) number) hold_places
 
 -- the lowest free place
-abbrev pub free_hold : Hold → Found
+abbrev pub free_hold : Hold → Option ℕ
 free_hold h = first (λ (k : ℕ). nat_eq (entry_at h k).stage 0) hold_places
 
 abbrev pub entry_put : Hold → ℕ → Entry → Hold
@@ -50,9 +48,9 @@ abbrev pub entry_freed : Hold → ℕ → Hold
 entry_freed h place = entry_put h place free_entry
 
 -- an entry more, at the lowest free place
-unfoldable pub entry_added_at : Hold → Entry → Found → Hold
-entry_added_at h e (At place) = entry_put h place e
-entry_added_at h e Nothing = h
+unfoldable pub entry_added_at : Hold → Entry → Option ℕ → Hold
+entry_added_at h e (Some place) = entry_put h place e
+entry_added_at h e None = h
 
 unfoldable pub entry_added : Hold → Entry → Hold
 entry_added h e = entry_added_at h e (free_hold h)

@@ -1,7 +1,5 @@
 -- Document 01, "Sizes": the packets of one origin, each new one at the lowest free place.
-use Rattle.std.specs.Prelude.{ℕ, zero, suc, Bool, true, false, cond, not, ◌&&◌, replicate, ◌==◌, slice_index_or, slice_set}
-use Rattle.search.specs.declared.Found.{Found}
-use Rattle.search.specs.declared.Found.TheVariants.{At, Nothing}
+use Rattle.std.specs.Prelude.{ℕ, zero, suc, Bool, true, false, cond, not, ◌&&◌, replicate, ◌==◌, slice_index_or, slice_set, None, Option, Some}
 use Rattle.search.specs.Search.{first, count}
 use Rattle.world.specs.declared.roster.Roster.{Roster}
 use Rattle.world.specs.declared.sending.Sending.{Sending}
@@ -30,7 +28,7 @@ abbrev pub is_free : Outgoing → ℕ → Bool
 is_free o place = not (packet_at o place).there
 
 -- the lowest free place, and how many there are
-abbrev pub free_outgoing : Outgoing → Found
+abbrev pub free_outgoing : Outgoing → Option ℕ
 free_outgoing o = first (λ (k : ℕ). is_free o k) outgoing_places
 
 abbrev pub free_places : Outgoing → ℕ
@@ -43,9 +41,9 @@ abbrev pub packet_freed : Outgoing → ℕ → Outgoing
 packet_freed o place = packet_put o place free_packet
 
 -- a packet more, at the lowest free place
-unfoldable pub packet_added_at : Outgoing → Packet → Found → Outgoing
-packet_added_at o p (At place) = packet_put o place p
-packet_added_at o p Nothing = o
+unfoldable pub packet_added_at : Outgoing → Packet → Option ℕ → Outgoing
+packet_added_at o p (Some place) = packet_put o place p
+packet_added_at o p None = o
 
 unfoldable pub packet_added : Outgoing → Packet → Outgoing
 packet_added o p = packet_added_at o p (free_outgoing o)

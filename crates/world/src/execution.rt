@@ -5,7 +5,6 @@ ghost use Rattle.world.specs.Executions.{unused_execution, fresh_executions, exe
 use crate::mask::join;
 use crate::roster::Roster;
 use fips180::Digest;
-use search::Found;
 
 #[repr(C)]
 #[derive(Clone, Copy)]
@@ -133,17 +132,17 @@ impl Executions {
     }
 
     // The place of the execution that has this id.
-    pub fn find(self, id: u16) -> Found
+    pub fn find(self, id: u16) -> Option<usize>
         ensures { result ≡ execution_of self id }
     {
         let count = self.count as usize;
         let mut k: usize = 0;
         loop {
             if k == Executions::MOST {
-                break Found::Nothing;
+                break None;
             }
             if (k < count) & (self.table[k].id == id) {
-                break Found::At(k);
+                break Some(k);
             }
             k += 1;
         }

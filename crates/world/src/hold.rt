@@ -1,11 +1,9 @@
 // The entries that one server holds, each at a stage.
-ghost use Rattle.std.specs.Prelude.{◌≡◌};
-ghost use Rattle.search.specs.Search.{is_found};
+ghost use Rattle.std.specs.Prelude.{◌≡◌, is_some};
 ghost use Rattle.world.specs.Hold.{entry_of, free_entry, fresh_hold, entry_at, is_entry, holding, is_ready, ready_place};
 ghost use Rattle.world.specs.Hold.{free_hold, entry_added, entry_put};
 
 use crate::sending::Sending;
-use search::Found;
 
 #[repr(C)]
 #[derive(Clone, Copy)]
@@ -108,32 +106,32 @@ impl Hold {
     }
 
     // The lowest place with an entry at stage three that has this number.
-    pub fn ready(self, number: u32) -> Found
+    pub fn ready(self, number: u32) -> Option<usize>
         ensures { result ≡ ready_place self number }
     {
         let mut k: usize = 0;
         loop {
             if k == Hold::PLACES {
-                break Found::Nothing;
+                break None;
             }
             if self.places[k].is_ready(number) {
-                break Found::At(k);
+                break Some(k);
             }
             k += 1;
         }
     }
 
     // The lowest free place.
-    pub fn free(self) -> Found
+    pub fn free(self) -> Option<usize>
         ensures { result ≡ free_hold self }
     {
         let mut k: usize = 0;
         loop {
             if k == Hold::PLACES {
-                break Found::Nothing;
+                break None;
             }
             if self.places[k].stage == Entry::FREE {
-                break Found::At(k);
+                break Some(k);
             }
             k += 1;
         }
@@ -141,9 +139,9 @@ impl Hold {
 
     // Whether a place is free.
     pub fn has_room(self) -> bool
-        ensures { result ≡ is_found (free_hold self) }
+        ensures { result ≡ is_some (free_hold self) }
     {
-        let Found::At(_) = self.free() else {
+        let Some(_) = self.free() else {
             return false;
         };
         true
@@ -153,7 +151,7 @@ impl Hold {
     pub fn keep(self, entry: Entry) -> Hold
         ensures { result ≡ entry_added self entry }
     {
-        let Found::At(k) = self.free() else {
+        let Some(k) = self.free() else {
             return self;
         };
         let mut h = self;

@@ -6,7 +6,6 @@ ghost use Rattle.world.specs.Outgoing.{packet_added, packet_freed, sent, needed,
 use crate::mask::has;
 use crate::roster::Roster;
 use crate::sending::Sending;
-use search::Found;
 
 #[repr(C)]
 #[derive(Clone, Copy)]
@@ -71,16 +70,16 @@ impl Outgoing {
     }
 
     // The lowest free place.
-    pub fn free(self) -> Found
+    pub fn free(self) -> Option<usize>
         ensures { result ≡ free_outgoing self }
     {
         let mut place: usize = 0;
         loop {
             if place == Outgoing::PLACES {
-                break Found::Nothing;
+                break None;
             }
             if !self.places[place].there {
-                break Found::At(place);
+                break Some(place);
             }
             place += 1;
         }
@@ -105,7 +104,7 @@ impl Outgoing {
     pub fn post(self, packet: Packet) -> Outgoing
         ensures { result ≡ packet_added self packet }
     {
-        let Found::At(k) = self.free() else {
+        let Some(k) = self.free() else {
             return self;
         };
         let mut o = self;

@@ -18,11 +18,11 @@ unfolding deliver_of must deliver_found
 returns-in_default c = simp (c.answer-in_default.ensures, ← c.member.ensures, not_no c.member.result c.if-not-member.false-raw, ← c.is_faulty.ensures, c.if-is_faulty.false, ← c.next.ensures, ← c.ready.ensures, c.in_default.is)
 
 pub offset_bounds-held-k : goal.offset_bounds-held-k
-offset_bounds-held-k c = omega (arith, found_in _ _ _ _ c.ready.ensures c.in-At.is)
+offset_bounds-held-k c = omega (arith, found_in _ _ _ _ c.ready.ensures c.in-Some.is)
 
 pub bounds-held-k : goal.bounds-held-k
-bounds-held-k c = found_in _ _ _ _ c.ready.ensures c.in-At.is
+bounds-held-k c = found_in _ _ _ _ c.ready.ensures c.in-Some.is
 
 pub returns : goal.returns
 unfolding deliver_of must deliver_found
-returns c = simp (c.answer-2.ensures, c.append-d.ensures, c.put-h.ensures, c.free.ensures, ← c.member.ensures, not_no c.member.result c.if-not-member.false-raw, ← c.is_faulty.ensures, c.if-is_faulty.false, ← c.next.ensures, ← c.ready.ensures, c.in-At.is)
+returns c = simp (c.answer-2.ensures, c.append-d.ensures, c.put-h.ensures, c.free.ensures, ← c.member.ensures, not_no c.member.result c.if-not-member.false-raw, ← c.is_faulty.ensures, c.if-is_faulty.false, ← c.next.ensures, ← c.ready.ensures, c.in-Some.is)

@@ -23,4 +23,4 @@ returns-in_default c = simp (c.answer-in_default.ensures, ← c.member.ensures, 
 
 pub returns : goal.returns
 unfolding forge_packet_of must
-returns c = simp (c.answer-2.ensures, c.post-o.ensures, c.new.ensures, ← c.member.ensures, ← c.member-2.ensures, ← c.member-3.ensures, not_no (c.member.result && c.member-2.result && c.member-3.result) c.if-not-member.false-raw, ← c.is_faulty.ensures, not_no c.is_faulty.result c.if-not-is_faulty.false-raw, lt-ltb _ _ c.if-b-slot.false, ← c.free.ensures, c.in-At.is)
+returns c = simp (c.answer-2.ensures, c.post-o.ensures, c.new.ensures, ← c.member.ensures, ← c.member-2.ensures, ← c.member-3.ensures, not_no (c.member.result && c.member-2.result && c.member-3.result) c.if-not-member.false-raw, ← c.is_faulty.ensures, not_no c.is_faulty.result c.if-not-is_faulty.false-raw, lt-ltb _ _ c.if-b-slot.false, ← c.free.ensures, c.in-Some.is)

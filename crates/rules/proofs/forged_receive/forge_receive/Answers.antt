@@ -18,8 +18,8 @@ unfolding forge_receive_of must forge_receive_found
 returns-in_default c = simp (c.answer-in_default.ensures, ← c.member.ensures, ← c.member-2.ensures, not_no (c.member.result && c.member-2.result) c.if-not-member.false-raw, ← c.is_faulty.ensures, not_no c.is_faulty.result c.if-not-is_faulty.false-raw, ← c.find.ensures, c.in_default.is)
 
 pub receive_to-requires : goal.receive_to-requires
-receive_to-requires c = found_in _ _ _ _ c.find.ensures c.in-At.is
+receive_to-requires c = found_in _ _ _ _ c.find.ensures c.in-Some.is
 
 pub returns : goal.returns
 unfolding forge_receive_of must forge_receive_found
-returns c = simp (c.receive_to.ensures, ← c.member.ensures, ← c.member-2.ensures, not_no (c.member.result && c.member-2.result) c.if-not-member.false-raw, ← c.is_faulty.ensures, not_no c.is_faulty.result c.if-not-is_faulty.false-raw, ← c.find.ensures, c.in-At.is)
+returns c = simp (c.receive_to.ensures, ← c.member.ensures, ← c.member-2.ensures, not_no (c.member.result && c.member-2.result) c.if-not-member.false-raw, ← c.is_faulty.ensures, not_no c.is_faulty.result c.if-not-is_faulty.false-raw, ← c.find.ensures, c.in-Some.is)

@@ -22,8 +22,8 @@ unfolding propose_of must propose_found
 returns-in_default c = simp (c.answer-in_default.ensures, ← c.member.ensures, not_no c.member.result c.if-not-member.false-raw, ← c.is_faulty.ensures, c.if-is_faulty.false, ← c.at-e.ensures, eq-eqb _ _ c.if-e-ne-ONE.false, ← c.find.ensures, c.in_default.is)
 
 pub propose_to-requires : goal.propose_to-requires
-propose_to-requires c = found_in _ _ _ _ c.find.ensures c.in-At.is
+propose_to-requires c = found_in _ _ _ _ c.find.ensures c.in-Some.is
 
 pub returns : goal.returns
 unfolding propose_of must propose_found
-returns c = simp (c.propose_to.ensures, ← c.member.ensures, not_no c.member.result c.if-not-member.false-raw, ← c.is_faulty.ensures, c.if-is_faulty.false, ← c.at-e.ensures, eq-eqb _ _ c.if-e-ne-ONE.false, ← c.find.ensures, c.in-At.is)
+returns c = simp (c.propose_to.ensures, ← c.member.ensures, not_no c.member.result c.if-not-member.false-raw, ← c.is_faulty.ensures, c.if-is_faulty.false, ← c.at-e.ensures, eq-eqb _ _ c.if-e-ne-ONE.false, ← c.find.ensures, c.in-Some.is)

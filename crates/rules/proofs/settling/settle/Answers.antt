@@ -22,8 +22,8 @@ unfolding settle_of must settle_found
 returns-in_default c = simp (c.answer-in_default.ensures, ← c.member.ensures, not_no c.member.result c.if-not-member.false-raw, ← c.is_faulty.ensures, c.if-is_faulty.false, ← c.at-e.ensures, eq-eqb _ _ c.if-e-ne-TWO.false, ← c.find.ensures, c.in_default.is)
 
 pub settle_to-requires : goal.settle_to-requires
-settle_to-requires c = found_in _ _ _ _ c.find.ensures c.in-At.is
+settle_to-requires c = found_in _ _ _ _ c.find.ensures c.in-Some.is
 
 pub returns : goal.returns
 unfolding settle_of must settle_found
-returns c = simp (c.settle_to.ensures, ← c.member.ensures, not_no c.member.result c.if-not-member.false-raw, ← c.is_faulty.ensures, c.if-is_faulty.false, ← c.at-e.ensures, eq-eqb _ _ c.if-e-ne-TWO.false, ← c.find.ensures, c.in-At.is)
+returns c = simp (c.settle_to.ensures, ← c.member.ensures, not_no c.member.result c.if-not-member.false-raw, ← c.is_faulty.ensures, c.if-is_faulty.false, ← c.at-e.ensures, eq-eqb _ _ c.if-e-ne-TWO.false, ← c.find.ensures, c.in-Some.is)

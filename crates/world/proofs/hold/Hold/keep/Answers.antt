@@ -8,11 +8,11 @@ unfolding entry_added entry_added_at
 returns-in_default c = rw (← c.free.ensures, c.in_default.is)
 
 pub offset_bounds-h-k : goal.offset_bounds-h-k
-offset_bounds-h-k c = omega (arith, found_in _ _ _ _ c.free.ensures c.in-At.is)
+offset_bounds-h-k c = omega (arith, found_in _ _ _ _ c.free.ensures c.in-Some.is)
 
 pub bounds-h-k : goal.bounds-h-k
-bounds-h-k c = found_in _ _ _ _ c.free.ensures c.in-At.is
+bounds-h-k c = found_in _ _ _ _ c.free.ensures c.in-Some.is
 
 pub returns : goal.returns
 unfolding entry_added entry_added_at
-returns c = rw (← c.free.ensures, c.in-At.is)
+returns c = rw (← c.free.ensures, c.in-Some.is)

@@ -8,11 +8,11 @@ unfolding packet_added packet_added_at
 returns-in_default c = rw (← c.free.ensures, c.in_default.is)
 
 pub offset_bounds-o-k : goal.offset_bounds-o-k
-offset_bounds-o-k c = omega (arith, found_in _ _ _ _ c.free.ensures c.in-At.is)
+offset_bounds-o-k c = omega (arith, found_in _ _ _ _ c.free.ensures c.in-Some.is)
 
 pub bounds-o-k : goal.bounds-o-k
-bounds-o-k c = found_in _ _ _ _ c.free.ensures c.in-At.is
+bounds-o-k c = found_in _ _ _ _ c.free.ensures c.in-Some.is
 
 pub returns : goal.returns
 unfolding packet_added packet_added_at
-returns c = rw (← c.free.ensures, c.in-At.is)
+returns c = rw (← c.free.ensures, c.in-Some.is)

@@ -1,5 +1,5 @@
+use Rattle.std.specs.Prelude.{is_some}
 use Rattle.std.proofs.Common.{Bool, ◌&&◌, ltb, sym, ap, ◌∙◌, arith}
-use Rattle.search.specs.Search.{is_found}
 use Rattle.search.proofs.Laws.{passed_none, passed_more, passed_here, passed_all}
 use Rattle.world.specs.Requests.{known_digest}
 use Rattle.world.proofs.request.Requests.knows.Goals as goal
@@ -13,9 +13,9 @@ loop-k-preserved c = let t = ap (λ (b : Bool). ltb c.loop-k.k c.args.self.count
 
 pub returns-then-k-eq-MOST : goal.returns-then-k-eq-MOST
 unfolding known_digest
-returns-then-k-eq-MOST c = ap is_found (passed_all _ _ _ c.if-k-eq-MOST.true c.loop-k.invariant)
+returns-then-k-eq-MOST c = ap is_some (passed_all _ _ _ c.if-k-eq-MOST.true c.loop-k.invariant)
 
 pub returns-then-k-count : goal.returns-then-k-count
 unfolding known_digest
 returns-then-k-count c = let t = ap (λ (b : Bool). ltb c.loop-k.k c.args.self.count && b) (sym c.has_digest.ensures) in
-    ap is_found (passed_here _ _ _ (omega arith) (t ∙ c.if-k-count.true) c.loop-k.invariant)
+    ap is_some (passed_here _ _ _ (omega arith) (t ∙ c.if-k-count.true) c.loop-k.invariant)
