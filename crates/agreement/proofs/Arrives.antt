@@ -9,6 +9,7 @@ use lib.Dec.{eqb, ltb}
 use lib.ListN.{length, get_or, set}
 use lib.Seq.{set-get_or, get_or-set_same}
 use borrow.Author.Tests.{eqb-true, eqb-false}
+use Rattle.std.proofs.lemmas.Bool.{and_from, and_parts, not-false, not-true}
 use Rattle.world.specs.declared.World.{World}
 use Rattle.world.specs.declared.hold.Hold.{Hold}
 use Rattle.world.specs.declared.sending.Sending.{Sending}
@@ -23,7 +24,7 @@ use Rattle.world.proofs.Seats as seats
 use Rattle.protocol.specs.declared.boxes.Ruling.{Ruling}
 use Rattle.protocol.specs.Rules.{arrive_of, forge_packet_of}
 use Rattle.protocol.specs.Steps.{touch, boxes_of, put_back}
-use Rattle.search.proofs.Booleans.{apart, either, musts, must_cases, test, and2, and4, and_both, not_out, not_no}
+use Rattle.search.proofs.Booleans.{apart, either, musts, must_cases, test, and4}
 use Rattle.search.proofs.Every.{found_at, found_where}
 use Rattle.kept.proofs.Facts.{FactsOf, inside}
 use Rattle.kept.proofs.Places.{packet_out}
@@ -44,7 +45,7 @@ held_equal h s y =
     and4 (not (eqb e.stage 0)) (eqb o.sender s.sender) (eqb o.id s.id) (eqb o.slot s.slot)
     (found_at (λ (k : ℕ). is_entry (entry_at h k) s) hold_places z.0 z.1)
     in
-    let d = eqb-false e.stage 0 (not_out _ a.0) in
+    let d = eqb-false e.stage 0 (not-true _ a.0) in
     record {
       place = z.0;
       is = record {
@@ -93,7 +94,7 @@ module _ (w : World) (f : FactsOf w) (v : InvOf w) where
         (rw (set-get_or w.holds p no_entries, set-get_or w.delivered o no_items)
         (gone v
         (λ ok.
-        held_equal (hold_at w.holds p) packet.sending (rw (good w f p ok) at (not_no (faulty w.roster p || holding (hold_at w.holds p) packet.sending) no))))))
+        held_equal (hold_at w.holds p) packet.sending (rw (good w f p ok) at (not-false (faulty w.roster p || holding (hold_at w.holds p) packet.sending) no))))))
         λ _.
         musts P (is_some (free_hold (hold_at w.holds p))) _ _ same λ room.
         calm w f t _ _ _
@@ -110,7 +111,7 @@ module _ (w : World) (f : FactsOf w) (v : InvOf w) where
   arrive_moves origin place =
       test (member w.roster origin && (packet_at (get_or w.outgoing (seat origin) no_packets) place).there)
       (λ yes.
-      let a = and2 (member w.roster origin) _ yes in
+      let a = and_parts (member w.roster origin) _ yes in
       let l = named w f origin a.0 in
       let there = rw (seat_own origin l) at a.1 in
       let o = get_or w.outgoing origin no_packets in
@@ -123,7 +124,7 @@ module _ (w : World) (f : FactsOf w) (v : InvOf w) where
       let P : Ruling → Type 0 = λ s. Moves w (put_back w t s.boxes) in
       musts P (member w.roster origin) _ _ (stays w f t v) λ mine.
       musts P (packet_at (get_or w.outgoing (seat origin) no_packets) place).there _ _ (stays w f t v) λ there.
-      apart _ (and_both mine there) no)
+      apart _ (and_from _ _ mine there) no)
 
   pub forge_packet_moves : (from to sender id slot : ℕ)
       → (let t = touch from from from 0 in Moves w (put_back w t (forge_packet_of w.roster from to sender id slot (boxes_of w t)).boxes))

@@ -9,6 +9,7 @@ use lib.Dec.{eqb}
 use lib.ListN.{length}
 use lib.Seq.{set-get_or, get_or-set_same}
 use borrow.Author.Tests.{eqb-true}
+use Rattle.std.proofs.lemmas.Bool.{and_from, and_parts}
 use Rattle.search.proofs.Laws.{found_in}
 use Rattle.world.specs.declared.World.{World}
 use Rattle.world.specs.Sizes.{hold_places}
@@ -20,7 +21,7 @@ use Rattle.world.proofs.Seats.{seat_own}
 use Rattle.protocol.specs.declared.boxes.Ruling.{Ruling}
 use Rattle.protocol.specs.Rules.{deliver_found, deliver_of}
 use Rattle.protocol.specs.Steps.{touch, boxes_of, put_back}
-use Rattle.search.proofs.Booleans.{musts, and2, and_both}
+use Rattle.search.proofs.Booleans.{musts}
 use Rattle.search.proofs.Every.{found_at}
 use Rattle.kept.proofs.Facts.{FactsOf, entry_out}
 use Rattle.kept.proofs.Delivering.{third_number}
@@ -39,7 +40,7 @@ module _ (w : World) (f : FactsOf w) (v : InvOf w) where
       let e = entry_at (hold_at w.holds p) z in
       let d = done_at w.delivered p in
       let l = found_in _ hold_places z (Some z) q refl in
-      let a = and2 (eqb e.stage 3) (eqb e.number (next_of d)) (found_at _ hold_places z (sym q)) in
+      let a = and_parts (eqb e.stage 3) (eqb e.number (next_of d)) (found_at _ hold_places z (sym q)) in
       let third = eqb-true e.stage 3 a.0 in
       let number = eqb-true e.number (next_of d) a.1 in
       let s = seated w f p ok in
@@ -70,4 +71,4 @@ module _ (w : World) (f : FactsOf w) (v : InvOf w) where
       let same = stays w f t v in
       musts P (member w.roster server) _ _ same λ mine.
       musts P (not (faulty w.roster server)) _ _ same λ good.
-      rw (seat_own server (named w f server mine)) (delivered_at_lem server server 0 (and_both mine good) _ refl)
+      rw (seat_own server (named w f server mine)) (delivered_at_lem server server 0 (and_from _ _ mine good) _ refl)

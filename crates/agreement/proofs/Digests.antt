@@ -7,13 +7,14 @@ use native.Mathlib.Omega.{arith}
 use lib.Dec.{eqb}
 use lib.ListN.{get_or}
 use borrow.Author.Tests.{eq-eqb, eqb-true}
+use Rattle.std.proofs.lemmas.Bool.{cases_lt, not-true}
 use Rattle.fips180.specs.Digest.{digest_bytes}
 use Rattle.world.specs.declared.roster.Roster.{Roster}
 use Rattle.world.specs.declared.request.Requests.{Requests}
 use Rattle.world.specs.declared.execution.Execution.{Execution}
 use Rattle.world.specs.Requests.{request_at, same_digest}
 use Rattle.protocol.specs.Sound.{new_digest}
-use Rattle.search.proofs.Booleans.{apart, either, less?, not_out}
+use Rattle.search.proofs.Booleans.{apart, either}
 use Rattle.search.proofs.Every.{every_at, every_all}
 use Rattle.kept.proofs.Facts.{Stored}
 use Rattle.agreement.proofs.Invariant.{Matches}
@@ -38,13 +39,13 @@ module _ {r : Roster} {q : Requests} (f : Stored r q) {x : Execution} where
   later a b h p m =
       apart (same_digest (request_at q a).digest (request_at q b).digest)
       (digest_both (request_at q a).digest (request_at q b).digest x.digest p.same m.same)
-      (not_out _ (every_at (λ (j : ℕ). not (same_digest (request_at q j).digest (request_at q b).digest)) b (f.new b m.stored) a h))
+      (not-true _ (every_at (λ (j : ℕ). not (same_digest (request_at q j).digest (request_at q b).digest)) b (f.new b m.stored) a h))
 
   pub matches_one : (a b : ℕ) → Matches q a x → Matches q b x → a ≡ b
   matches_one a b p m =
-      either (less? a b)
+      either (cases_lt a b)
       (λ (h : a < b). absurd (later a b h p m))
       (λ (h : b ≤ a).
-      either (less? b a)
+      either (cases_lt b a)
       (λ (l : b < a). absurd (later b a l m p))
       (λ (l : a ≤ b). omega arith))

@@ -10,6 +10,7 @@ use lib.Dec.{eqb}
 use lib.ListN.{length, set}
 use lib.Seq.{get_or-set_same}
 use borrow.Author.Tests.{eqb-true}
+use Rattle.std.proofs.lemmas.Bool.{cases_eq}
 use Rattle.search.proofs.Laws.{found_in}
 use Rattle.world.specs.declared.roster.Roster.{Roster}
 use Rattle.world.specs.declared.request.Requests.{Requests}
@@ -24,7 +25,7 @@ use Rattle.world.specs.Sizes.{hold_places}
 use Rattle.world.specs.Masks.{has}
 use Rattle.world.specs.Hold.{entry_of, free_entry, entry_at, free_hold, entry_put, entry_freed, entry_added_at, entry_added}
 use Rattle.world.specs.Boxes.{no_entries}
-use Rattle.search.proofs.Booleans.{either, same?}
+use Rattle.search.proofs.Booleans.{either}
 use Rattle.search.proofs.Every.{found_at, found_where}
 use Rattle.kept.proofs.Facts.{set_cases}
 use Rattle.agreement.proofs.Invariant.{Correct, hold_at, done_at, made, Made, Matches, Of, Holds, Done, BelongsAs, Served, Spread, Inv}
@@ -40,7 +41,7 @@ module _ (h : Hold) (z : ℕ) (e : Entry) (size : length h.places ≡ hold_place
 
   put_keeps : (stage s i sl : ℕ) → Holds h stage s i sl → Holds (entry_put h z e) stage s i sl ⊎ Of (entry_at h z) stage s i sl
   put_keeps stage s i sl g =
-      either (same? g.place z)
+      either (cases_eq g.place z)
       (λ (y : g.place ≡ z). inr (rw y at g.is))
       (λ (y : g.place ≢ z).
       inl (record {

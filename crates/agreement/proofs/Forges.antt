@@ -8,6 +8,7 @@ use native.Mathlib.Omega.{arith}
 use lib.Dec.{ltb}
 use lib.Seq.{set-get_or}
 use borrow.Author.Tests.{ltb-true}
+use Rattle.std.proofs.lemmas.Bool.{and_parts, not-true}
 use Rattle.world.specs.declared.World.{World}
 use Rattle.world.specs.Sizes.{servers, executions_most}
 use Rattle.world.specs.Masks.{has}
@@ -19,7 +20,7 @@ use Rattle.world.proofs.Seats.{seat_own}
 use Rattle.protocol.specs.declared.boxes.Ruling.{Ruling}
 use Rattle.protocol.specs.Rules.{made, recorded, forge_send_of, forge_receive_to, forge_receive_found, forge_receive_of}
 use Rattle.protocol.specs.Steps.{touch, boxes_of, put_back}
-use Rattle.search.proofs.Booleans.{apart, musts, and2, not_out}
+use Rattle.search.proofs.Booleans.{apart, musts}
 use Rattle.kept.proofs.Facts.{FactsOf}
 use Rattle.kept.proofs.Ordering.{found_made, not_found}
 use Rattle.agreement.proofs.Invariant.{Correct, table_at, Cause, sender, settled, delivered, InvOf}
@@ -67,7 +68,7 @@ module _ (w : World) (f : FactsOf w) (v : InvOf w) where
       musts P (not (is_some (execution_of (table_at w.executions (seat server)) id))) _ _ same λ none.
       musts P (ltb (table_at w.executions (seat server)).count executions_most) _ _ same λ room.
       rw e
-      (sent_moves server l id digest bad (rw e at (not_out (is_some (execution_of (table_at w.executions (seat server)) id)) none))
+      (sent_moves server l id digest bad (rw e at (not-true (is_some (execution_of (table_at w.executions (seat server)) id)) none))
       (rw e at (ltb-true (table_at w.executions (seat server)).count executions_most room)) 0)
 
   module _ (p x y : ℕ) (caller : p < servers) (seated : x < servers) (bad : faulty w.roster p ≡ true) (digest : List ℕ) where
@@ -98,7 +99,7 @@ module _ (w : World) (f : FactsOf w) (v : InvOf w) where
       let P : Ruling → Type 0 = λ s. Moves w (put_back w t s.boxes) in
       let same = stays w f t v in
       musts P (member w.roster server && member w.roster from) _ _ same λ both.
-      let a = and2 (member w.roster server) (member w.roster from) both in
+      let a = and_parts (member w.roster server) (member w.roster from) both in
       let l = named w f server a.0 in
       let m = named w f from a.1 in
       musts P (faulty w.roster server) _ _ same λ bad.

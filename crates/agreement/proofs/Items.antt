@@ -5,6 +5,7 @@ use mathlib.Core.List.{List}
 use Prim.Native.Nat.{ℕ, ◌+◌, ◌<◌, ◌≤◌}
 use native.Mathlib.Omega.{arith}
 use lib.ListN.{length, set}
+use Rattle.std.proofs.lemmas.Bool.{cases_lt}
 use Rattle.world.specs.declared.roster.Roster.{Roster}
 use Rattle.world.specs.declared.request.Requests.{Requests}
 use Rattle.world.specs.declared.execution.Execution.{Execution}
@@ -18,7 +19,7 @@ use Rattle.world.specs.Hold.{entry_at}
 use Rattle.world.specs.Sending.{no_sending}
 use Rattle.world.specs.Delivered.{next_of, appended}
 use Rattle.world.specs.Boxes.{no_items, item_at}
-use Rattle.search.proofs.Booleans.{either, less?}
+use Rattle.search.proofs.Booleans.{either}
 use Rattle.kept.proofs.Facts.{set_cases}
 use Rattle.agreement.proofs.Invariant.{Correct, hold_at, done_at, made, Made, Matches, Holds, Done, BelongsAs, Cause, delivered, settled, Inv}
 use Rattle.agreement.proofs.Keeping.{Keys, items_keep}
@@ -68,7 +69,7 @@ module _ {r : Roster} {q : Requests} {ts : List Executions} {os : List Outgoing}
       (λ ok h g d.
       let a = d.numbered in
       let b = d.reached in
-      either (less? (done_at ds p).count (made ts s k).number)
+      either (cases_lt (done_at ds p).count (made ts s k).number)
       (λ (l : (done_at ds p).count < (made ts s k).number). settled p ok (newest s k sl h g (omega (arith, counted))))
       (λ (l : (made ts s k).number ≤ (done_at ds p).count). delivered p ok (record { numbered = a; reached = l })))
       (λ o ok h g d. delivered o ok d) o

@@ -7,6 +7,7 @@ use native.Mathlib.Omega.{arith}
 use lib.ListN.{length, get_or, set}
 use lib.Seq.{set-get_or}
 use borrow.Author.Tests.{ltb-true}
+use Rattle.std.proofs.lemmas.Bool.{and_parts, not-true}
 use Rattle.world.specs.declared.World.{World}
 use Rattle.world.specs.declared.execution.Execution.{Execution}
 use Rattle.world.specs.declared.outgoing.Outgoing.{Outgoing}
@@ -19,7 +20,6 @@ use Rattle.protocol.specs.declared.boxes.Boxes.{Boxes}
 use Rattle.protocol.specs.Rules.{with_hold, with_outgoing, with_delivered}
 use Rattle.protocol.specs.declared.boxes.Touch.{Touch}
 use Rattle.protocol.specs.Steps.{boxes_of, put_back}
-use Rattle.search.proofs.Booleans.{and2, not_out}
 use Rattle.kept.proofs.Facts.{FactsOf, place_out, order_low}
 use Rattle.kept.proofs.Facts as facts
 use Rattle.kept.proofs.Masking.{masks_out}
@@ -43,13 +43,13 @@ module _ (w : World) (f : FactsOf w) where
   named p e = let n = few_servers w.roster f.roster in omega (arith, ltb-true p w.roster.n e)
 
   pub seated : (p : ℕ) → Correct w.roster p → p < servers
-  seated p ok = named p (and2 (member w.roster p) (not (faulty w.roster p)) ok).0
+  seated p ok = named p (and_parts (member w.roster p) (not (faulty w.roster p)) ok).0
 
   pub in_holds : (p : ℕ) → Correct w.roster p → p < length w.holds
   in_holds p ok = rw f.all_entries (seated p ok)
 
   pub good : (p : ℕ) → Correct w.roster p → faulty w.roster p ≡ false
-  good p ok = not_out (faulty w.roster p) (and2 (member w.roster p) (not (faulty w.roster p)) ok).1
+  good p ok = not-true (faulty w.roster p) (and_parts (member w.roster p) (not (faulty w.roster p)) ok).1
 
   -- no server has delivered more than the numbers given
   pub few : (p : ℕ) → Correct w.roster p → (done_at w.delivered p).count ≤ w.numbered

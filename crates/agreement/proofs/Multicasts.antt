@@ -10,6 +10,7 @@ use lib.Dec.{ltb, leb}
 use lib.ListN.{get_or, set}
 use lib.Seq.{get_or-set_same}
 use borrow.Author.Tests.{ltb-true, leb-true}
+use Rattle.std.proofs.lemmas.Bool.{and_from, and_parts, cases_eq}
 use Rattle.world.specs.declared.World.{World}
 use Rattle.world.specs.declared.execution.Execution.{Execution}
 use Rattle.world.specs.declared.outgoing.Outgoing.{Outgoing}
@@ -28,7 +29,7 @@ use Rattle.world.proofs.Seats.{seat_own}
 use Rattle.protocol.specs.declared.boxes.Ruling.{Ruling}
 use Rattle.protocol.specs.Rules.{made, multicast_done, roomy, multicast_of}
 use Rattle.protocol.specs.Steps.{touch, boxes_of, put_back}
-use Rattle.search.proofs.Booleans.{either, musts, same?, and2, and_both}
+use Rattle.search.proofs.Booleans.{either, musts}
 use Rattle.world.proofs.Bits.{nobody_has}
 use Rattle.kept.proofs.Requesting.{same_digest_lem}
 use Rattle.kept.proofs.Facts.{FactsOf}
@@ -86,7 +87,7 @@ module _ (w : World) (f : FactsOf w) (v : InvOf w) where
     spreads : (sl : ℕ) → Matches w.requests sl x → Spread w.roster mail holds w.delivered p x sl
     spreads sl g o good =
         let e = one w f slot sl x matches g in
-        either (same? o p) (λ (z : o ≡ p). inr (inl (rw (z, ← e) (own 1 (omega arith)))))
+        either (cases_eq o p) (λ (z : o ≡ p). inr (inl (rw (z, ← e) (own 1 (omega arith)))))
         (λ (z : o ≢ p). inl (rw (← e, x_id) (posts_under w f p ok nobody sending room o good z (nobody_has o))))
 
     multicasts : Moves w (put_back w (at p p p slot) (multicast_done w.roster p slot (boxes_of w (at p p p slot))))
@@ -116,7 +117,7 @@ module _ (w : World) (f : FactsOf w) (v : InvOf w) where
       musts P (has b.request.seals server) _ _ same λ seal.
       musts P (ltb b.executions.count executions_most) _ _ same λ quota.
       musts P (roomy w.roster server b) _ _ same λ roomy.
-      let a = and2 (leb (needed w.roster nobody server) (free_places b.outgoing)) (is_some (free_hold b.hold)) roomy in
+      let a = and_parts (leb (needed w.roster nobody server) (free_places b.outgoing)) (is_some (free_hold b.hold)) roomy in
       rw (e, c)
-      (multicasts server (and_both mine good) slot k (rw c at seal) (rw e at (ltb-true b.executions.count executions_most quota)) (rw e at a.1)
+      (multicasts server (and_from _ _ mine good) slot k (rw c at seal) (rw e at (ltb-true b.executions.count executions_most quota)) (rw e at a.1)
       (rw e at (leb-true (needed w.roster nobody server) (free_places b.outgoing) a.0)))

@@ -7,9 +7,10 @@ use Prim.Native.Nat.{ℕ, zero, suc, ◌+◌, ◌-◌, ◌<◌, ◌≤◌}
 use native.Mathlib.Omega.{arith}
 use lib.Dec.{eqb}
 use borrow.Author.Tests.{eq-eqb, eqb-true}
+use Rattle.std.proofs.lemmas.Bool.{cases_eq, cases_lt}
 use Rattle.search.specs.Search.{first, count}
 use Rattle.search.proofs.Laws.{found_in}
-use Rattle.search.proofs.Booleans.{either, same?, less?}
+use Rattle.search.proofs.Booleans.{either}
 use Rattle.search.proofs.Every.{found_at, found_where, any_in}
 use Rattle.kept.proofs.Counts.{Numbers, count_some}
 
@@ -24,7 +25,7 @@ count_up : (t : ℕ → Bool) (i n : ℕ) → i < n → t i ≡ true → 1 ≤ c
 unfolding count
 count_up t i zero h e = absurd (omega arith)
 count_up t i (suc n) h e =
-    either (same? i n)
+    either (cases_eq i n)
     (λ (s : i ≡ n). let y : t n ≡ true = rw (← s) e in rw y (omega arith))
     (λ (s : i ≢ n). let a = count_up t i n (omega arith) e in omega arith)
 
@@ -32,7 +33,7 @@ count_two : (t : ℕ → Bool) (i j n : ℕ) → i < j → j < n → t i ≡ tru
 unfolding count
 count_two t i j zero l h d e = absurd (omega arith)
 count_two t i j (suc n) l h d e =
-    either (same? j n)
+    either (cases_eq j n)
     (λ (s : j ≡ n). let a = count_up t i n (omega arith) d in let y : t n ≡ true = rw (← s) e in rw y (omega arith))
     (λ (s : j ≢ n). let a = count_two t i j n l (omega arith) d e in omega arith)
 
@@ -50,10 +51,10 @@ module _ {f : ℕ → ℕ} {n m : ℕ} (s : Numbers f n m) where
   -- two places that have one number are the same
   pub number_one : (i j : ℕ) → i < n → j < n → f i ≡ f j → f i ≢ 0 → i ≡ j
   number_one i j a b e d =
-      either (less? i j)
+      either (cases_lt i j)
       (λ (l : i < j). absurd (twice i j l b e d))
       (λ (l : j ≤ i).
-      either (less? j i)
+      either (cases_lt j i)
       (λ (k : j < i). absurd (twice j i k a (sym e) (λ z. d (e ∙ z))))
       (λ (k : i ≤ j). omega arith))
 

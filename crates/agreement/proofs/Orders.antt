@@ -9,6 +9,7 @@ use lib.Count.{ones}
 use lib.Dec.{eqb}
 use lib.ListN.{length, set}
 use borrow.Author.Tests.{eqb-true}
+use Rattle.std.proofs.lemmas.Bool.{and_parts, cond_both}
 use Rattle.world.specs.declared.roster.Roster.{Roster}
 use Rattle.world.specs.declared.request.Requests.{Requests}
 use Rattle.world.specs.declared.execution.Execution.{Execution}
@@ -22,7 +23,7 @@ use Rattle.world.specs.Masks.{nobody, has}
 use Rattle.world.specs.Roster.{threshold}
 use Rattle.world.specs.Executions.{no_execution, next_number, execution_at, opened, called, ordered}
 use Rattle.world.specs.Boxes.{no_table}
-use Rattle.search.proofs.Booleans.{apart, either, chosen, and2}
+use Rattle.search.proofs.Booleans.{apart, either}
 use Rattle.world.proofs.Bits.{join_back, join_keeps, nobody_has}
 use Rattle.kept.proofs.Facts.{set_cases}
 use Rattle.kept.proofs.Ordering.{changed}
@@ -40,9 +41,9 @@ pub record Orders (e : Execution) (m : ℕ) (o : Ordered) : Type 0 where
 pub orders : (r : Roster) (e : Execution) (m : ℕ) → Orders e m (ordered r e m)
 unfolding ordered
 orders r e m =
-    chosen (λ o. Orders e m o) (eqb e.number 0 && eqb (ones e.mask) (threshold r)) _ _
+    cond_both (eqb e.number 0 && eqb (ones e.mask) (threshold r)) _ _ (λ o. Orders e m o)
     (λ p.
-    let a = and2 (eqb e.number 0) (eqb (ones e.mask) (threshold r)) p in
+    let a = and_parts (eqb e.number 0) (eqb (ones e.mask) (threshold r)) p in
     record { id = refl; digest = refl; called = refl; mask = refl; number = inr (eqb-true e.number 0 a.0, refl, refl) })
     (λ _. record { id = refl; digest = refl; called = refl; mask = refl; number = inl (refl, refl) })
 

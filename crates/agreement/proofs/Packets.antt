@@ -8,6 +8,7 @@ use Prim.Native.Nat.{ℕ, zero, suc, ◌+◌, ◌<◌, ◌≤◌}
 use native.Mathlib.Omega.{arith}
 use lib.ListN.{length, get_or, set, length-set}
 use lib.Seq.{get_or-set_same, get_or-set_other}
+use Rattle.std.proofs.lemmas.Bool.{cases_eq, not-true}
 use Rattle.search.specs.Search.{count}
 use Rattle.search.proofs.Laws.{found_in, count_same}
 use Rattle.world.specs.declared.roster.Roster.{Roster}
@@ -17,7 +18,7 @@ use Rattle.world.specs.declared.sending.Sending.{Sending}
 use Rattle.world.specs.Sizes.{servers, outgoing_places}
 use Rattle.world.specs.Outgoing.{free_packet, packet_for, packet_at, is_free, free_outgoing, free_places, packet_put, packet_freed, packet_added_at, packet_added, recipient, needed, sent_below, sent}
 use Rattle.world.specs.Boxes.{no_packets}
-use Rattle.search.proofs.Booleans.{apart, either, same?, not_out}
+use Rattle.search.proofs.Booleans.{apart, either}
 use Rattle.search.proofs.Every.{found_at}
 use Rattle.kept.proofs.Counts.{count_some}
 use Rattle.kept.proofs.Facts.{set_cases}
@@ -33,7 +34,7 @@ count_drop : (t u : ℕ → Bool) (z n : ℕ) → z < n → t z ≡ true → u z
 unfolding count
 count_drop t u z zero p a b h = absurd (omega arith)
 count_drop t u z (suc n) p a b h =
-    either (same? z n)
+    either (cases_eq z n)
     (λ (e : z ≡ n).
     let c = count_same t u n (λ i l. sym (h i (omega arith))) in
     let x : t n ≡ true = rw e at a in
@@ -52,7 +53,7 @@ module _ (o : Outgoing) (k : Packet) (size : length o.places ≡ outgoing_places
         record {
           place = w.place;
           goes = set_cases (λ y. Goes y p s i sl) o.places z w.place k free_packet (omega arith)
-              (λ (e : w.place ≡ z). apart (packet_at o z).there (rw e at w.goes.there) (not_out _ free))
+              (λ (e : w.place ≡ z). apart (packet_at o z).there (rw e at w.goes.there) (not-true _ free))
               (λ _. w.goes);
         }
 
@@ -116,7 +117,7 @@ module _ (r : Roster) (mask server : ℕ) (d : Sending) (o : Outgoing) (size : l
         room = λ l. let a = f.room (omega arith) in let b = g.fewer (omega arith) refl in omega arith;
         goes = λ l to h y.
             let a = f.room (omega arith) in
-            either (same? to n)
+            either (cases_eq to n)
             (λ (z : to ≡ n). g.goes (omega arith) to d.sender d.id d.slot (record { there = refl; to = sym z; sender = refl; id = refl; slot = refl }))
             (λ (z : to ≢ n). g.ways to d.sender d.id d.slot (f.goes (omega arith) to (omega arith) y));
       }
@@ -127,7 +128,7 @@ module _ (r : Roster) (mask server : ℕ) (d : Sending) (o : Outgoing) (size : l
         ways = f.ways;
         room = λ l. let a = f.room (omega arith) in omega arith;
         goes = λ l to h y.
-            either (same? to n)
+            either (cases_eq to n)
             (λ (z : to ≡ n). apart (recipient r mask server n) (rw z at y) e)
             (λ (z : to ≢ n). f.goes (omega arith) to (omega arith) y);
       }
@@ -150,7 +151,7 @@ packet_added_ways o k size = (posts o k size).ways
 -- a place packet_freed: only what stood there is gone
 pub packet_freed_ways : (o : Outgoing) (z : ℕ) (p s i sl : ℕ) → Way o p s i sl → Way (packet_freed o z) p s i sl ⊎ Goes (packet_at o z) p s i sl
 packet_freed_ways o z p s i sl w =
-    either (same? w.place z)
+    either (cases_eq w.place z)
     (λ (e : w.place ≡ z). inr (rw e at w.goes))
     (λ (e : w.place ≢ z). inl (record { place = w.place; goes = rw (get_or-set_other o.places z w.place free_packet free_packet e) w.goes }))
 
@@ -161,7 +162,7 @@ module _ (os : List Outgoing) (x : ℕ) (o : Outgoing) (seated : x < length os) 
 
   pub under_still : {A : Type 0} (p s i sl : ℕ) → (Way (get_or os x no_packets) p s i sl → Way o p s i sl ⊎ A) → Under os p s i sl → Under (set os x o) p s i sl ⊎ A
   under_still p s i sl f u =
-      either (same? u.origin x)
+      either (cases_eq u.origin x)
       (λ (e : u.origin ≡ x).
       either (f (record { place = u.place; goes = rw e at u.goes })) (λ w. inl (under_now p s i sl w)) (λ a. inr a))
       (λ (e : u.origin ≢ x). inl (record { origin = u.origin; place = u.place; goes = rw (get_or-set_other os x u.origin o no_packets e) u.goes }))

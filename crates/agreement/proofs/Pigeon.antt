@@ -7,6 +7,7 @@ use native.Mathlib.Omega.{arith}
 use lib.Count.{ones, ones_step, ones-le}
 use lib.Dec.{eqb, leb}
 use borrow.Author.Tests.{eqb-true, leb-true, ne_eqb}
+use Rattle.std.proofs.lemmas.Bool.{and_from, and_parts, cases_lt, not_from_false}
 use Rattle.world.specs.declared.World.{World}
 use Rattle.world.specs.declared.roster.Roster.{Roster}
 use Rattle.world.specs.declared.execution.Execution.{Execution}
@@ -14,7 +15,7 @@ use Rattle.world.specs.Sizes.{servers}
 use Rattle.world.specs.Masks.{has}
 use Rattle.world.specs.Roster.{faulty, threshold, faults, strays, good_roster}
 use Rattle.protocol.specs.Sound.{order_sound}
-use Rattle.search.proofs.Booleans.{either, less?, and2, and4, and_both, not_in}
+use Rattle.search.proofs.Booleans.{either, and4}
 use Rattle.world.proofs.Bits.{has_zero, has_suc}
 use Rattle.kept.proofs.Facts.{FactsOf}
 use Rattle.kept.proofs.Masking.{masks_out}
@@ -45,7 +46,7 @@ module _ (mask other : ℕ) where
   -- where the upper digits have no more members, the lowest digit makes the difference
   digits : ones other < ones mask → (ones (other / 2) < ones (mask / 2)) ⊎ ((mask % 2 ≡ 1) × (other % 2 ≡ 0))
   digits h =
-      either (less? (ones (other / 2)) (ones (mask / 2)))
+      either (cases_lt (ones (other / 2)) (ones (mask / 2)))
       (λ (l : ones (other / 2) < ones (mask / 2)). inl l)
       (λ (l : ones (mask / 2) ≤ ones (other / 2)). let a = ones_step mask in let b = ones_step other in inr (omega arith))
 
@@ -66,7 +67,7 @@ few_faulty r e =
 full_mask : (r : Roster) (m : ℕ) (x : Execution) → x.number ≢ 0 → order_sound r m x ≡ true → ones x.mask ≡ threshold r
 unfolding order_sound
 full_mask r m x d e =
-    eqb-true (ones x.mask) (threshold r) (and2 (eqb (ones x.mask) (threshold r)) (leb x.number m) (rw (ne_eqb x.number 0 d) at e)).0
+    eqb-true (ones x.mask) (threshold r) (and_parts (eqb (ones x.mask) (threshold r)) (leb x.number m) (rw (ne_eqb x.number 0 d) at e)).0
 
 pub record Caller (r : Roster) (x : Execution) : Type 0 where
   pub server : ℕ
@@ -84,6 +85,6 @@ correct_caller w f small s k there numbered =
     let m = masks_out w.roster s x g.masks in
     record {
       server = o.server;
-      good = and_both (m.proposers o.server o.below o.inside) (not_in (faulty w.roster o.server) o.outside);
+      good = and_from _ _ (m.proposers o.server o.below o.inside) (not_from_false (faulty w.roster o.server) o.outside);
       called = m.within o.server o.below o.inside;
     }

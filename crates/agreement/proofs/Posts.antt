@@ -7,6 +7,7 @@ use Prim.Native.Nat.{ℕ, ◌<◌, ◌≤◌}
 use lib.Dec.{eqb}
 use lib.ListN.{length, get_or, set}
 use borrow.Author.Tests.{ne_eqb}
+use Rattle.std.proofs.lemmas.Bool.{and_from, and_parts, not_from_false}
 use Rattle.world.specs.declared.World.{World}
 use Rattle.world.specs.declared.outgoing.Outgoing.{Outgoing}
 use Rattle.world.specs.declared.sending.Sending.{Sending}
@@ -16,7 +17,6 @@ use Rattle.world.specs.Masks.{has}
 use Rattle.world.specs.Roster.{member, faulty}
 use Rattle.world.specs.Outgoing.{free_places, needed, sent}
 use Rattle.world.specs.Boxes.{no_packets}
-use Rattle.search.proofs.Booleans.{and2, and_both, not_in}
 use Rattle.kept.proofs.Facts.{FactsOf}
 use Rattle.agreement.proofs.Invariant.{Correct, Under, Inv}
 use Rattle.agreement.proofs.Keeping.{packets_keep}
@@ -45,7 +45,7 @@ module _ (w : World) (f : FactsOf w) (p : ℕ) (ok : Correct w.roster p) (mask :
   pub posts_under : needed w.roster mask p ≤ free_places outbox → (o : ℕ) → Correct w.roster o → o ≢ p → has mask o ≡ false
       → Under posts o d.sender d.id d.slot
   posts_under room o good other n =
-      let a = and2 (member w.roster o) (not (faulty w.roster o)) good in
+      let a = and_parts (member w.roster o) (not (faulty w.roster o)) good in
       under_now w.outgoing p (sent w.roster mask p d outbox) all o d.sender d.id d.slot
       (sent_goes w.roster mask p d outbox size room o (seated w f o good)
-      (and_both (and_both a.0 (not_in (has mask o) n)) (not_in (eqb o p) (ne_eqb o p other))))
+      (and_from _ _ (and_from _ _ a.0 (not_from_false (has mask o) n)) (not_from_false (eqb o p) (ne_eqb o p other))))

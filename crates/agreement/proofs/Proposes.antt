@@ -7,6 +7,7 @@ use Prim.Native.Nat.{ℕ, ◌<◌}
 use native.Mathlib.Omega.{arith}
 use lib.ListN.{set}
 use lib.Seq.{set-get_or, get_or-set_same}
+use Rattle.std.proofs.lemmas.Bool.{not-false}
 use Rattle.world.specs.declared.World.{World}
 use Rattle.world.specs.declared.sending.Sending.{Sending}
 use Rattle.world.specs.declared.hold.Entry.{Entry}
@@ -19,7 +20,7 @@ use Rattle.world.specs.Boxes.{no_packets, no_entries, hold_of}
 use Rattle.protocol.specs.declared.boxes.Ruling.{Ruling}
 use Rattle.protocol.specs.Rules.{raised, recorded, propose_to, propose_found, propose_of}
 use Rattle.protocol.specs.Steps.{touch_for, boxes_of, put_back}
-use Rattle.search.proofs.Booleans.{musts, must_cases, not_no}
+use Rattle.search.proofs.Booleans.{musts, must_cases}
 use Rattle.kept.proofs.Facts.{FactsOf}
 use Rattle.agreement.proofs.Invariant.{Correct, hold_at, done_at, table_at, made, Called, Inv, InvOf}
 use Rattle.agreement.proofs.Entries.{entry_second, put_holds}
@@ -72,7 +73,7 @@ module _ (w : World) (f : FactsOf w) (v : InvOf w) where
         let m = its_made w f v p ok place u k (sym q) in
         let i : k < executions_most = omega (arith, g.most, m.used) in
         must_cases P (not (has x.called p)) _ _
-        (λ (n : not (has x.called p) ≡ false). drops (inl (first, not_no (has x.called p) n))) λ _.
+        (λ (n : not (has x.called p) ≡ false). drops (inl (first, not-false (has x.called p) n))) λ _.
         musts P (has (request_at w.requests sending.slot).seals p) _ _ (calm_entry w f t _ raises) λ seal.
         must_cases P (same_digest (request_at w.requests sending.slot).digest x.digest) _ _ (λ n. drops (inr n)) λ same.
         ordered w f t (recorded w.roster p k (raised place 2 0 (boxes_of w t)))

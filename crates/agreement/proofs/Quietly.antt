@@ -8,6 +8,7 @@ use native.Mathlib.Omega.{arith}
 use lib.Dec.{eqb, ltb}
 use lib.ListN.{get_or}
 use borrow.Author.Tests.{eq-eqb, ne_eqb, eqb-false, lt-ltb}
+use Rattle.std.proofs.lemmas.Bool.{and_from, and_parts, cases_lt, not-true, not_from_false}
 use Rattle.world.specs.declared.World.{World}
 use Rattle.world.specs.declared.execution.Executions.{Executions}
 use Rattle.world.specs.declared.sending.Sending.{Sending}
@@ -24,7 +25,7 @@ use Rattle.world.specs.Boxes.{no_packets}
 use Rattle.protocol.specs.Names.{table_of, own_execution}
 use Rattle.protocol.specs.Quiet.{outgoing_quiet, is_numbered, stirs, hold_quiet, server_quiet, quiet}
 use Rattle.world.proofs.Seats.{seat_own}
-use Rattle.search.proofs.Booleans.{apart, either, less?, and2, and_both, implies_out, not_in, not_out}
+use Rattle.search.proofs.Booleans.{apart, either, implies_out}
 use Rattle.search.proofs.Every.{every_at}
 use Rattle.kept.proofs.Facts.{inside, entry_out}
 use Rattle.agreement.proofs.Invariant.{Correct, hold_at, done_at, made, Made, Holds, Under, Belongs, Served, Cause, settled, delivered}
@@ -71,7 +72,7 @@ module _ (w : World) (g : Good w) (q : quiet w ≡ true) where
       let r = w.roster in
       let a = rw (seat_own s h) at (every_at (λ (s : ℕ). server_quiet w s) servers q s h) in
       let b =
-      and2 (outgoing_quiet r (get_or w.outgoing s no_packets))
+      and_parts (outgoing_quiet r (get_or w.outgoing s no_packets))
       (not (correct r s) || hold_quiet w.executions (next_of (done_at w.delivered s)) (hold_at w.holds s)) a
       in
       (b.0, implies_out (correct r s) (hold_quiet w.executions (next_of (done_at w.delivered s)) (hold_at w.holds s)) b.1)
@@ -85,8 +86,8 @@ module _ (w : World) (g : Good w) (q : quiet w ≡ true) where
       let y = u.goes.there in
       let a = inside (λ (o : Outgoing). (packet_at o u.place).there ≡ true) w.outgoing u.origin servers no_packets g.facts.all_packets y (λ e. apart false e refl) in
       let b = inside (λ (k : Packet). k.there ≡ true) o.places u.place outgoing_places free_packet (g.facts.packets u.origin a).size y (λ e. apart false e refl) in
-      apart (k.there && correct w.roster k.to) (and_both y (rw u.goes.to c))
-      (not_out _ (every_at (λ (k : ℕ). not ((packet_at o k).there && correct w.roster (packet_at o k).to)) outgoing_places (server_quiet_lem u.origin a).0 u.place b))
+      apart (k.there && correct w.roster k.to) (and_from _ _ y (rw u.goes.to c))
+      (not-true _ (every_at (λ (k : ℕ). not ((packet_at o k).there && correct w.roster (packet_at o k).to)) outgoing_places (server_quiet_lem u.origin a).0 u.place b))
 
   -- an entry of a correct server: it is of stage three at most, and its server could not go on with it
   record Idle (p z : ℕ) : Type 0 where
@@ -103,7 +104,7 @@ module _ (w : World) (g : Good w) (q : quiet w ≡ true) where
       let f = g.facts.entries p s in
       let l = inside (λ (e : Entry). 1 ≤ e.stage) h.places z hold_places free_entry f.size up (λ e. omega arith) in
       let y : stirs (table_of w.executions e.sending.sender) next e ≡ false =
-      not_out _ (every_at (λ (k : ℕ). not (stirs (table_of w.executions (entry_at h k).sending.sender) next (entry_at h k))) hold_places ((server_quiet_lem p s).1 c) z l)
+      not-true _ (every_at (λ (k : ℕ). not (stirs (table_of w.executions (entry_at h k).sending.sender) next (entry_at h k))) hold_places ((server_quiet_lem p s).1 c) z l)
       in
       record {
         top = (entry_out w.roster w.requests.count w.numbered p _ e (λ z. omega arith) (f.places z l)).stage;
@@ -122,7 +123,7 @@ module _ (w : World) (g : Good w) (q : quiet w ≡ true) where
   own_numbered e {s} {k} t a b d =
       ap (λ (f : Option ℕ). is_numbered (table_of w.executions e.sender) f) (own_at e t a b)
       ∙ ap (λ (x : ℕ). not (eqb (execution_at (table_of w.executions x) k).number 0)) a
-      ∙ rw (seat_own s t.seated) (not_in _ (ne_eqb (made w.executions s k).number 0 d))
+      ∙ rw (seat_own s t.seated) (not_from_false _ (ne_eqb (made w.executions s k).number 0 d))
 
   module _ (p : ℕ) (c : Correct w.roster p) {s k : ℕ} (t : Made w.executions s k) (some : (made w.executions s k).number ≢ 0) where
     -- so one of a numbered execution is at stage three
@@ -170,7 +171,7 @@ module _ (w : World) (g : Good w) (q : quiet w ≡ true) where
       let d = done_at w.delivered p in
       let most = few w g.facts p c in
       let top = g.facts.numbers.most in
-      either (less? d.count w.numbered)
+      either (cases_lt d.count w.numbered)
       (λ (l : d.count < w.numbered).
       let m = member_of w g (d.count + 1) (omega arith) (omega arith) in
       let e : next_of d ≡ d.count + 1 = omega arith in

@@ -9,6 +9,7 @@ use lib.Dec.{ltb}
 use lib.ListN.{set}
 use lib.Seq.{get_or-set_same, get_or-set_other}
 use borrow.Author.Tests.{ltb-true, lt-ltb}
+use Rattle.std.proofs.lemmas.Bool.{cases_lt, not-true}
 use Rattle.world.specs.declared.World.{World}
 use Rattle.world.specs.declared.request.Request.{Request}
 use Rattle.world.specs.declared.request.Requests.{Requests}
@@ -19,7 +20,7 @@ use Rattle.world.specs.Requests.{no_request, request_at, same_digest, known_dige
 use Rattle.protocol.specs.declared.boxes.Requested.{Requested}
 use Rattle.protocol.specs.Rules.{request_from, request_of}
 use Rattle.world.specs.Boxes.{with_requests}
-use Rattle.search.proofs.Booleans.{apart, either, less?, musts, not_out}
+use Rattle.search.proofs.Booleans.{apart, either, musts}
 use Rattle.search.proofs.Every.{any_none}
 use Rattle.kept.proofs.Facts.{FactsOf}
 use Rattle.agreement.proofs.Invariant.{Matches, InvOf}
@@ -49,7 +50,7 @@ module _ (w : World) (f : FactsOf w) (v : InvOf w) where
     -- an execution's stored digest is not the new one's
     older : (a b : ℕ) (y : Execution) → Matches q a y → Matches more b y → b < q.count
     older a b y g h =
-        either (less? b q.count)
+        either (cases_lt b q.count)
         (λ l. l)
         (λ (l : q.count ≤ b).
         let s = h.stored in
@@ -78,4 +79,4 @@ module _ (w : World) (f : FactsOf w) (v : InvOf w) where
       musts P (not (strays w.roster seals)) _ _ same λ _.
       musts P (not (known_digest q x.digest)) _ _ same λ new.
       musts P (ltb q.count requests_most) _ _ same λ room.
-      stores x (not_out (known_digest q x.digest) new) (ltb-true q.count requests_most room)
+      stores x (not-true (known_digest q x.digest) new) (ltb-true q.count requests_most room)

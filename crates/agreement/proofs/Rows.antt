@@ -6,6 +6,7 @@ use mathlib.Core.List.{List, [], ◌∷◌, ◌++◌}
 use Prim.Native.Nat.{ℕ, ◌+◌, ◌<◌, ◌≤◌}
 use native.Mathlib.Omega.{arith}
 use borrow.Author.Tests.{eq-eqb, ne_eqb}
+use Rattle.std.proofs.lemmas.Bool.{and_from, cases_lt, not_from_false}
 use Rattle.world.specs.declared.World.{World}
 use Rattle.world.specs.declared.roster.Roster.{Roster}
 use Rattle.world.specs.declared.hold.Entry.{Entry}
@@ -14,7 +15,7 @@ use Rattle.world.specs.declared.sending.Sending.{Sending}
 use Rattle.world.specs.Sizes.{hold_places}
 use Rattle.world.specs.Hold.{entry_at, free_entry, is_entry, holding}
 use Rattle.world.proofs.Seats.{seat_own}
-use Rattle.search.proofs.Booleans.{either, less?, and_both, not_in}
+use Rattle.search.proofs.Booleans.{either}
 use Rattle.search.proofs.Every.{any_in}
 use Rattle.kept.proofs.Facts.{inside}
 use Rattle.agreement.specs.Agreement.{sendings, sending_of, Begins, through, Vouched, InTime, Demand}
@@ -39,9 +40,9 @@ leads_same g =
 entry_is : {e : Entry} {stage : ℕ} {s : Sending} → 0 < stage → Of e stage s.sender s.id s.slot → is_entry e s ≡ true
 entry_is {e} {stage} {s} some o =
     let up = o.up in
-    and_both
-    (and_both
-    (and_both (not_in _ (ne_eqb e.stage 0 (λ z. omega arith))) (eq-eqb e.sending.sender s.sender o.sender))
+    and_from _ _
+    (and_from _ _
+    (and_from _ _ (not_from_false _ (ne_eqb e.stage 0 (λ z. omega arith))) (eq-eqb e.sending.sender s.sender o.sender))
     (eq-eqb e.sending.id s.id o.id))
     (eq-eqb e.sending.slot s.slot o.slot)
 
@@ -139,7 +140,7 @@ module _ {A : Type 0} (go : World → A → World) (leads : (w : World) (a : A) 
   in_time w [] g n a b = absurd (omega arith)
   in_time w (x ∷ l) g n a b =
       let d = leads w x g in
-      either (less? (go w x).numbered n)
+      either (cases_lt (go w x).numbered n)
       (λ (h : (go w x).numbered < n). let r = in_time (go w x) l d.good n h b in
       record {
         earlier = x ∷ r.earlier;

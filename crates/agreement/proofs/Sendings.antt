@@ -10,6 +10,7 @@ use lib.Dec.{eqb, ltb}
 use lib.ListN.{length, get_or, take, drop, length-append, take-append-drop, get_or-append}
 use lib.Seq.{length-take-le, ext_get_or, get_or-take, get_or_at}
 use borrow.Author.Tests.{eq-eqb, eqb-true, ltb-true, lt-ltb, le-ltb}
+use Rattle.std.proofs.lemmas.Bool.{and_from, and_parts, cases_eq, cases_lt}
 use Rattle.world.specs.declared.World.{World}
 use Rattle.world.specs.declared.request.Requests.{Requests}
 use Rattle.world.specs.declared.execution.Execution.{Execution}
@@ -22,7 +23,7 @@ use Rattle.world.specs.Sending.{no_sending}
 use Rattle.protocol.specs.Names.{table_of}
 use Rattle.protocol.specs.Sound.{number_at}
 use Rattle.world.proofs.Seats.{seat_own}
-use Rattle.search.proofs.Booleans.{either, same?, less?, and2, and_both}
+use Rattle.search.proofs.Booleans.{either}
 use Rattle.kept.proofs.Facts.{FactsOf, place_unused}
 use Rattle.kept.proofs.Ordering.{ids_differ}
 use Rattle.agreement.specs.Agreement.{place_of, numbered_at, slot_of, sending_of, sendings_to, Begins}
@@ -99,7 +100,7 @@ module _ (w : World) (f : FactsOf w) where
       let l : s < servers = omega arith in
       let z : Index i s k = record { sender = refl; place = refl } in
       let e : (made w.executions s k).number ≡ n = ap (λ (x : Execution). x.number) (sym (placed w.executions l z)) ∙ g.2 in
-      either (less? k (table_at w.executions s).count)
+      either (cases_lt k (table_at w.executions s).count)
       (λ (u : k < (table_at w.executions s).count). record { sender = s; place = k; there = record { seated = l; used = u }; number = e })
       (λ (u : (table_at w.executions s).count ≤ k).
       let o = place_unused w.roster w.numbered s _ k _ (le-ltb k _ u) ((f.tables s l).places k (omega arith)) in
@@ -108,7 +109,7 @@ module _ (w : World) (f : FactsOf w) where
   -- two executions of a sender that have one id are the same
   pub id_one : {s k y : ℕ} → Made w.executions s k → Made w.executions s y → (made w.executions s k).id ≡ (made w.executions s y).id → k ≡ y
   id_one {s} {k} {y} a b e =
-      either (same? k y) (λ (z : k ≡ y). z) (λ (z : k ≢ y). absurd (ids_differ (f.tables s a.seated) k y a.used b.used z e))
+      either (cases_eq k y) (λ (z : k ≡ y). z) (λ (z : k ≢ y). absurd (ids_differ (f.tables s a.seated) k y a.used b.used z e))
 
   -- an execution's id finds it
   pub id_finds : {s k : ℕ} → Made w.executions s k → execution_of (table_at w.executions s) (made w.executions s k).id ≡ Some k
@@ -116,9 +117,9 @@ module _ (w : World) (f : FactsOf w) where
       let v = table_at w.executions s in
       let id = (execution_at v k).id in
       first_one (λ (j : ℕ). ltb j v.count && eqb (execution_at v j).id id) executions_most k (within t)
-      (and_both (lt-ltb k v.count t.used) (eq-eqb id id refl))
+      (and_from _ _ (lt-ltb k v.count t.used) (eq-eqb id id refl))
       (λ i h e.
-      let a = and2 (ltb i v.count) (eqb (execution_at v i).id id) e in
+      let a = and_parts (ltb i v.count) (eqb (execution_at v i).id id) e in
       id_one (record { seated = t.seated; used = ltb-true i v.count a.0 }) t (eqb-true (execution_at v i).id id a.1))
 
   -- a number finds its execution
@@ -139,9 +140,9 @@ module _ (w : World) (f : FactsOf w) where
       let top = f.requests.most in
       ap place_of
       (first_one (λ (k : ℕ). ltb k q.count && same_digest (request_at q k).digest x.digest) requests_most slot (omega arith)
-      (and_both (lt-ltb slot q.count l) m.same)
+      (and_from _ _ (lt-ltb slot q.count l) m.same)
       (λ i _ e.
-      let a = and2 (ltb i q.count) (same_digest (request_at q i).digest x.digest) e in
+      let a = and_parts (ltb i q.count) (same_digest (request_at q i).digest x.digest) e in
       matches_one f.requests i slot (record { stored = ltb-true i q.count a.0; same = a.1 }) m))
 
   -- the sending that belongs to a number is that number's
@@ -167,7 +168,7 @@ unfolding sendings_to
 sendings_at w zero k h = absurd (omega arith)
 sendings_at w (suc m) k h =
     let l = sendings_length w m in
-    either (same? k m)
+    either (cases_eq k m)
     (λ (e : k ≡ m). rw e (get_or_at (sendings_to w m) (sending_of w (m + 1)) [] no_sending m l))
     (λ (e : k ≢ m). get_or-append (sendings_to w m) (sending_of w (m + 1) ∷ []) no_sending k (omega arith) ∙ sendings_at w m k (omega arith))
 

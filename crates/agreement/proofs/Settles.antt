@@ -10,6 +10,7 @@ use lib.Dec.{eqb, leb}
 use lib.ListN.{get_or, set}
 use lib.Seq.{set-get_or}
 use borrow.Author.Tests.{eqb-true, eqb-false, leb-true}
+use Rattle.std.proofs.lemmas.Bool.{cases_eq, not-false, not-true}
 use Rattle.world.specs.declared.World.{World}
 use Rattle.world.specs.declared.execution.Execution.{Execution}
 use Rattle.world.specs.declared.outgoing.Outgoing.{Outgoing}
@@ -23,7 +24,7 @@ use Rattle.world.specs.Boxes.{no_packets, no_items, hold_of}
 use Rattle.protocol.specs.declared.boxes.Ruling.{Ruling}
 use Rattle.protocol.specs.Rules.{settle_to, settle_found, settle_of}
 use Rattle.protocol.specs.Steps.{touch_for, boxes_of, put_back}
-use Rattle.search.proofs.Booleans.{either, test, musts, must_cases, same?, not_out, not_no}
+use Rattle.search.proofs.Booleans.{either, test, musts, must_cases}
 use Rattle.kept.proofs.Facts.{FactsOf}
 use Rattle.agreement.proofs.Invariant.{Correct, hold_at, done_at, table_at, made, Matches, Belongs, Served, Spread, sender, Inv, InvOf}
 use Rattle.agreement.proofs.Keeping.{holds_less}
@@ -80,7 +81,7 @@ module _ (w : World) (f : FactsOf w) (v : InvOf w) where
 
         sent_spread : needed w.roster x.mask p ≤ free_places (get_or w.outgoing p no_packets) → Spread w.roster mail w.holds w.delivered sending.sender x sending.slot
         sent_spread room o good =
-            either (same? o p)
+            either (cases_eq o p)
             (λ (z : o ≡ p).
             inr (inl (rw z (record { place = place; is = record { up = omega arith; sender = refl; id = sym (its_id w f v p ok place u k q); slot = refl } }))))
             (λ (z : o ≢ p).
@@ -96,12 +97,12 @@ module _ (w : World) (f : FactsOf w) (v : InvOf w) where
         let r = sym q in
         let nothing = stays w f t v in
         musts P (not (eqb y.number 0)) _ _ nothing λ number.
-        let some = eqb-false y.number 0 (not_out (eqb y.number 0) number) in
+        let some = eqb-false y.number 0 (not-true (eqb y.number 0) number) in
         must_cases P (same_digest (request_at w.requests sending.slot).digest y.digest) _ _
         (λ n. dropped w f v p ok place u k r sending.sender sending.slot (inr n)) λ same.
         must_cases P (not (eqb sending.sender p)) _ _
         (λ (n : not (eqb sending.sender p) ≡ false).
-        calm_entry w f t _ (raises k r some same v (own_spread k r some same (eqb-true sending.sender p (not_no (eqb sending.sender p) n))))) λ _.
+        calm_entry w f t _ (raises k r some same v (own_spread k r some same (eqb-true sending.sender p (not-false (eqb sending.sender p) n))))) λ _.
         musts P (leb (needed w.roster y.mask p) (free_places (get_or w.outgoing p no_packets))) _ _ nothing λ room.
         calm w f t _ _ _
         (rw (set-get_or w.delivered p no_items)

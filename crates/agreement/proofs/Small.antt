@@ -8,6 +8,7 @@ use lib.Dec.{eqb, ltb}
 use lib.ListN.{set}
 use lib.Pow.{pow-lt}
 use borrow.Author.Tests.{ltb-true}
+use Rattle.std.proofs.lemmas.Bool.{cond_both}
 use Rattle.world.specs.declared.World.{World}
 use Rattle.world.specs.declared.roster.Roster.{Roster}
 use Rattle.world.specs.declared.execution.Execution.{Execution}
@@ -22,7 +23,7 @@ use Rattle.protocol.specs.declared.boxes.Ruling.{Ruling}
 use Rattle.protocol.specs.Rules.{made, recorded, raised, multicast_done, multicast_of, arrive_of, propose_to, propose_found, propose_of, settle_to, settle_found, settle_of, deliver_found, deliver_of, forge_packet_of, forge_send_of, forge_receive_to, forge_receive_found, forge_receive_of}
 use Rattle.format.specs.Records.{Asked, Request, Multicast, Arrive, Propose, Settle, Deliver, ForgePacket, ForgeSend, ForgeReceive}
 use Rattle.protocol.specs.Steps.{step_of}
-use Rattle.search.proofs.Booleans.{chosen, musts}
+use Rattle.search.proofs.Booleans.{musts}
 use Rattle.kept.proofs.Ordering.{changed}
 use Rattle.agreement.proofs.Invariant.{table_at}
 use Rattle.agreement.proofs.Lists.{set_both, filled}
@@ -40,7 +41,7 @@ Small ts = (s : ℕ) → Low (table_at ts s)
 
 join_small : (m i : ℕ) → Eight m → Eight (join m i)
 unfolding join
-join_small m i h = chosen Eight (ltb i servers) _ _ (λ e. or_lt servers m (2 ^ i) h (pow-lt (ltb-true i servers e))) (λ _. h)
+join_small m i h = cond_both (ltb i servers) _ _ Eight (λ e. or_lt servers m (2 ^ i) h (pow-lt (ltb-true i servers e))) (λ _. h)
 
 -- an execution in a table
 put_low : (r : Roster) (e : Execution) (m : ℕ) (t : Executions) (place count : ℕ) → Eight e.mask → Low t → Low (changed t place count (ordered r e m).execution)
@@ -60,7 +61,7 @@ module _ (r : Roster) (b : Boxes) (f : Low b.executions) where
       let t = b.executions in
       let x = execution_at t place in
       put_low r (called x server) b.numbered t place t.count
-      (chosen Eight (eqb x.number 0) _ _ (λ _. join_small x.mask server (f place)) (λ _. f place)) f
+      (cond_both (eqb x.number 0) _ _ Eight (λ _. join_small x.mask server (f place)) (λ _. f place)) f
 
 abbrev Leaves : Ruling → Type 0
 Leaves s = Low s.boxes.executions

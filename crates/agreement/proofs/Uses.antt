@@ -7,6 +7,7 @@ use Prim.Native.Nat.{ℕ, ◌<◌}
 use native.Mathlib.Omega.{arith}
 use lib.Dec.{eqb, ltb}
 use borrow.Author.Tests.{ltb-true, lt-ltb, eqb-true}
+use Rattle.std.proofs.lemmas.Bool.{and_from, and_parts}
 use Rattle.world.specs.declared.World.{World}
 use Rattle.world.specs.declared.execution.Execution.{Execution}
 use Rattle.world.specs.declared.hold.Entry.{Entry}
@@ -24,7 +25,7 @@ use Rattle.protocol.specs.declared.answer.Answer.TheVariants.{BadServer, WrongSi
 use Rattle.protocol.specs.declared.boxes.Boxes.{Boxes}
 use Rattle.protocol.specs.declared.boxes.Ruling.{Ruling}
 use Rattle.protocol.specs.Rules.{answered, with_hold}
-use Rattle.search.proofs.Booleans.{apart, either, musts, and2, and_both}
+use Rattle.search.proofs.Booleans.{apart, either, musts}
 use Rattle.search.proofs.Every.{found_at}
 use Rattle.kept.proofs.Facts.{FactsOf, inside, entry_out}
 use Rattle.kept.proofs.Ordering.{found_made}
@@ -63,7 +64,7 @@ module _ (w : World) (f : FactsOf w) (v : InvOf w) (p : ℕ) (ok : Correct w.ros
     pub its_id : its.id ≡ taken.sending.id
     its_id =
         let t = table_at w.executions taken.sending.sender in
-        eqb-true its.id taken.sending.id (and2 (ltb k t.count) (eqb (execution_at t k).id taken.sending.id) (found_at _ executions_most k q)).1
+        eqb-true its.id taken.sending.id (and_parts (ltb k t.count) (eqb (execution_at t k).id taken.sending.id) (found_at _ executions_most k q)).1
 
     -- and no other
     pub its_only : {stage s j sl : ℕ} → Made w.executions s j → Of taken stage s (made w.executions s j).id sl → made w.executions s j ≡ its
@@ -112,7 +113,7 @@ entry_moves w f v n some server place next moves =
     musts P (not (faulty w.roster server)) _ _ same λ good.
     musts P (eqb d.stage n) _ _ same λ stage.
     let l = named w f server mine in
-    let ok = and_both mine good in
+    let ok = and_from _ _ mine good in
     let s = (entry_at (hold_at w.holds server) place).sending in
     let at_stage = rw (seat_own server l) at (eqb-true d.stage n stage) in
     let u = uses w f v server ok place n some at_stage in

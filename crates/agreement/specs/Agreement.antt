@@ -2,7 +2,7 @@
 -- sendings, the one of number k + 1 at place k; each correct server has delivered a beginning of it, and no sending is
 -- in it twice; of each, some correct server with a good seal held it by the step that gave the number; and in a quiet
 -- world nobody correct lacks any of it. Besides, the list only grows.
-use Rattle.std.specs.Prelude.{ℕ, zero, suc, ◌+◌, ◌*◌, ◌/◌, ◌%◌, ◌<◌, ◌≤◌, ◌≡◌, true, ◌&&◌, List, [], ◌∷◌, ◌++◌, eqb, ltb, length, get_or, take, None, Option, Some}
+use Rattle.std.specs.Prelude.{ℕ, zero, suc, ◌+◌, ◌*◌, ◌/◌, ◌%◌, ◌<◌, ◌≤◌, ◌≡◌, true, ◌&&◌, List, [], ◌∷◌, ◌++◌, eqb, ltb, length, get_or, take, None, Option, Some, Ok}
 use Rattle.search.specs.Search.{first}
 use Rattle.world.specs.declared.World.{World}
 use Rattle.world.specs.declared.request.Requests.{Requests}
@@ -18,7 +18,6 @@ use Rattle.world.specs.Sending.{no_sending}
 use Rattle.world.specs.Boxes.{executions_of, hold_of, delivered_of}
 use Rattle.protocol.specs.Sound.{number_at}
 use Rattle.protocol.specs.Quiet.{quiet}
-use Rattle.format.specs.declared.verdict.Verdict.TheVariants.{Accepted}
 use Rattle.format.specs.Records.{Asked, asked}
 use Rattle.format.specs.Judging.{judged}
 use Rattle.protocol.specs.Steps.{step_of}
@@ -126,11 +125,11 @@ by_bytes w s = (public_step w s).world
 
 -- of every schedule that is not refused
 abbrev pub RunAgrees : Type 0
-RunAgrees = (s : List ℕ) (k : ℕ) → judged s ≡ Accepted k → Demand by_record (start_world s) (asked s)
+RunAgrees = (s : List ℕ) (k : ℕ) → judged s ≡ Ok k → Demand by_record (start_world s) (asked s)
 
 -- of what `run` hands back
 abbrev pub RanAgrees : Type 0
-RanAgrees = (s : List ℕ) (room k : ℕ) → (ran_of s room).verdict ≡ Accepted k → Agreed (ran_of s room).world
+RanAgrees = (s : List ℕ) (room k : ℕ) → (ran_of s room).verdict ≡ Ok k → Agreed (ran_of s room).world
 
 -- of a public start that answers 0 and any row of public steps, refused ones among them
 abbrev pub RowAgrees : Type 0

@@ -3,13 +3,12 @@
 #![tactic(auto)]
 
 ghost use Rattle.std.specs.Prelude.{◌≡◌, length};
-ghost use Rattle.fips180.specs.Digest.{digest_answer};
+ghost use Rattle.fips180.specs.Digest.{digest_answer, digest_number, digest_written};
 ghost use Rattle.protocol.specs.Quiet.{quiet};
 ghost use Rattle.protocol.specs.Runs.{start_of, public_step, written_of};
 ghost use Rattle.bridge.specs.Bridge.{run_of};
 
 use fips180::Digest;
-use format::Verdict;
 use protocol::Outcome;
 use world::World;
 
@@ -27,13 +26,19 @@ pub struct Run {
 // The answer's code; the digest goes into `out`, zeros where the message is refused.
 #[unsafe(no_mangle)]
 pub extern "C" fn staubharfe_sha256(message: &[u8], out: &mut [u8; Digest::BYTES]) -> u8
-    ensures value { result ≡ (digest_answer message.now).code }
-    ensures out_after { out.new ≡ (digest_answer message.now).bytes }
+    ensures value { result ≡ digest_number (digest_answer message.now) }
+    ensures out_after { out.new ≡ digest_written (digest_answer message.now) }
 {
-    let d = digest::sha256(message);
-    let b = d.bytes;
-    *out = b;
-    d.code
+    match digest::sha256(message) {
+        Ok(digest) => {
+            *out = digest;
+            0
+        }
+        Err(why) => {
+            *out = [0; Digest::BYTES];
+            u8::from(why)
+        }
+    }
 }
 
 // A fresh world with 0; 25 and a world of zeros where no world may start so.
@@ -41,7 +46,13 @@ pub extern "C" fn staubharfe_sha256(message: &[u8], out: &mut [u8; Digest::BYTES
 pub extern "C" fn staubharfe_start(n: u8, faulty: u8) -> Outcome
     ensures { result ≡ start_of n faulty }
 {
-    rehearsal::start(n, faulty)
+    match rehearsal::start(n, faulty) {
+        Ok(world) => Outcome { code: 0, world },
+        Err(why) => Outcome {
+            code: why.into(),
+            world: World::fresh(0, 0),
+        },
+    }
 }
 
 // The step of one record: its answer's code, or why it is refused, and the world after.
@@ -49,30 +60,37 @@ pub extern "C" fn staubharfe_start(n: u8, faulty: u8) -> Outcome
 pub extern "C" fn staubharfe_step(world: World, bytes: &[u8]) -> Outcome
     ensures { result ≡ public_step world bytes.now }
 {
-    rehearsal::step(world, bytes)
+    match rehearsal::step(world, bytes) {
+        Ok(stepped) => Outcome {
+            code: stepped.answer.into(),
+            world: stepped.world,
+        },
+        Err(why) => Outcome {
+            code: why.into(),
+            world,
+        },
+    }
 }
 
 // Runs a schedule and writes one answer for each record after the start.
 #[unsafe(no_mangle)]
+#[tactic(auto, unfolding(crate::specs::Bridge::run_of))]
 pub extern "C" fn staubharfe_run(schedule: &[u8], answers: &mut [u8]) -> Run
     ensures value { result ≡ run_of schedule.now (length answers.old) }
     ensures answers_after { answers.new ≡ written_of schedule.now answers.old }
 {
-    let ran = rehearsal::run(schedule, answers);
-    let verdict = ran.verdict;
-    let world = ran.world;
-    match verdict {
-        Verdict::Accepted(records) => Run {
+    match rehearsal::run(schedule, answers) {
+        Ok(ran) => Run {
             offset: 0,
-            records,
+            records: ran.records,
             code: 0,
-            world,
+            world: ran.world,
         },
-        Verdict::Refused(why, offset) => Run {
-            offset,
+        Err(refused) => Run {
+            offset: refused.offset,
             records: 0,
-            code: why.code(),
-            world,
+            code: refused.why.into(),
+            world: World::fresh(0, 0),
         },
     }
 }

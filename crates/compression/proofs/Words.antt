@@ -1,8 +1,10 @@
 -- Laws of the loops that fill the message schedule, and of a word's bytes. Assumes nothing.
-use Rattle.std.proofs.Common.{◌≡◌, ℕ, suc, ◌+◌, ◌*◌, ◌/◌, ◌%◌, ◌^◌, ◌<◌, List, [], ◌∷◌, ◌++◌, length, take, set, sym, ap, ◌∙◌, add-one, arith, get_or-take}
-use native.Mathlib.Numerals.{add-two, add-three}
-use lib.Seq.{sets}
+use Rattle.std.proofs.Common.{◌≡◌, ℕ, zero, suc, ◌+◌, ◌*◌, ◌<◌, ◌≤◌, List, [], ◌∷◌, ◌++◌, length, get_or, take, set, sym, ap, refl, ◌∙◌, w32, add-one, arith, get_or-take}
+use Rattle.std.specs.Int.{to_be_bytes}
+use borrow.Rule.Slice.PartMut.{put_mid}
+use Rattle.std.proofs.lemmas.Slice.{take-put_mid}
 use Rattle.fips180.specs.Sha256.{be, scheduled, next_word, block_words, word_at}
+use Rattle.fips180.proofs.BigEndian.{be_four}
 use Rattle.search.proofs.Filling.{stored}
 
 -- one more word of the block
@@ -27,9 +29,15 @@ more_schedule ws m t v h e q =
     (stored ws (scheduled m t) (t + 16) v h e
     ∙ rw (add-one t) (ap (λ (x : ℕ). scheduled m t ++ x ∷ []) (q ∙ sym (next_take ws t) ∙ ap (λ (r : List ℕ). next_word r t) e)))
 
--- a word's four bytes stored one by one
-pub put_four : (o : List ℕ) (i x : ℕ)
-    → set (set (set (set o i (x / 2 ^ 24 % 256)) (i + 1) (x / 2 ^ 16 % 256)) (i + 2) (x / 2 ^ 8 % 256)) (i + 3) (x % 256) ≡ sets o i (be 4 x)
-put_four o i x =
-    let e : x ≡ x / 2 ^ 0 = omega arith in
-    simp (add-one, add-two, add-three) (ap (λ (y : ℕ). set (set (set (set o i (x / 2 ^ 24 % 256)) (suc i) (x / 2 ^ 16 % 256)) (suc (suc i)) (x / 2 ^ 8 % 256)) (suc (suc (suc i))) (y % 256)) e)
+-- the bytes of the first n words, four for each
+unfoldable pub words_bytes : List ℕ → ℕ → List ℕ
+words_bytes ws zero = []
+words_bytes ws (suc n) = words_bytes ws n ++ be 4 (get_or ws n 0)
+
+-- four more bytes
+pub more_bytes : (ws out src : List ℕ) (i k : ℕ) → i * 4 ≤ length out → take (i * 4) out ≡ words_bytes ws i → src ≡ to_be_bytes w32 (get_or ws i 0)
+    → take ((i + 1) * 4) (put_mid (i * 4) k out src) ≡ words_bytes ws (i + 1)
+unfolding words_bytes
+more_bytes ws out src i k h e q =
+    let l : length src ≡ 4 = rw q refl in
+    rw (take-put_mid (i * 4) k out src ((i + 1) * 4) (omega arith) h, add-one i, e, q, be_four (get_or ws i 0)) refl

@@ -2,7 +2,7 @@
 ghost use Rattle.std.specs.Prelude.{◌≡◌, ◌<◌, length, take};
 ghost use Rattle.fips180.specs.Sha256.{word_at, block_words, next_word, scheduled};
 
-use crate::word::{lower0, lower1, wide};
+use crate::word::{lower0, lower1};
 use fips180::Block;
 
 #[derive(Clone, Copy)]
@@ -24,27 +24,25 @@ impl Schedule {
     }
 
     // The block's words, and zeros after them.
+    #[tactic(auto, using(crate::proofs::Words::more_words), unfolding(fips180::specs::Sha256::block_words))]
     fn begun(b: Block) -> Schedule
         ensures { (length result.words ≡ 64) × (take 16 result.words ≡ block_words b.bytes 16) }
     {
         let mut ws = [0u32; Schedule::WORDS];
-        let mut t: usize = 0;
-        while t < Schedule::FIRST {
+        for t in 0..Schedule::FIRST {
             ws[t] = word_at(b, t * 4);
-            t += 1;
         }
         Schedule { words: ws }
     }
 
     // The words after the block's, each from those before it.
+    #[tactic(auto, using(crate::proofs::Words::more_schedule), unfolding(fips180::specs::Sha256::scheduled))]
     fn expanded(self) -> Schedule
         ensures { result.words ≡ scheduled (take 16 self.words) 48 }
     {
         let mut ws = self.words;
-        let mut t: usize = 0;
-        while t < Schedule::WORDS - Schedule::FIRST {
+        for t in 0..Schedule::WORDS - Schedule::FIRST {
             ws[t + Schedule::FIRST] = next_word(&ws, t);
-            t += 1;
         }
         Schedule { words: ws }
     }
@@ -55,18 +53,17 @@ fn word_at(b: Block, i: usize) -> u32
     requires { i < 61 }
     ensures { result ≡ word_at b.bytes i }
 {
-    wide(b.bytes[i]) * 0x100_0000
-        + wide(b.bytes[i + 1]) * 0x1_0000
-        + wide(b.bytes[i + 2]) * 0x100
-        + wide(b.bytes[i + 3])
+    u32::from_be_bytes([b.bytes[i], b.bytes[i + 1], b.bytes[i + 2], b.bytes[i + 3]])
 }
 
 // The word t + 16 of the schedule.
+#[tactic(auto, unfolding(fips180::specs::Sha256::next_word))]
 fn next_word(ws: &[u32; Schedule::WORDS], t: usize) -> u32
     requires { t < 48 }
     ensures { result ≡ next_word ws.now t }
 {
-    let x1 = std::num::wrapping_add_u32(lower1(ws[t + 14]), ws[t + 9]);
-    let x2 = std::num::wrapping_add_u32(x1, lower0(ws[t + 1]));
-    std::num::wrapping_add_u32(x2, ws[t])
+    lower1(ws[t + 14])
+        .wrapping_add(ws[t + 9])
+        .wrapping_add(lower0(ws[t + 1]))
+        .wrapping_add(ws[t])
 }

@@ -1,10 +1,9 @@
 // The hash value: its eight words, the rounds on them, and their bytes (FIPS 180-4, §5.3.3 and §6.2.2, steps 2 to 4).
-ghost use Rattle.std.specs.Prelude.{◌≡◌, ◌<◌};
-ghost use Rattle.std.proofs.lemmas.List.Edits.{sets};
-ghost use Rattle.fips180.specs.Sha256.{be, initial, round_of, rounds_of, fed, compressed, state_bytes};
+ghost use Rattle.std.specs.Prelude.{◌≡◌};
+ghost use Rattle.fips180.specs.Sha256.{initial, round_of, rounds_of, fed, compressed, state_bytes};
 
 use crate::expansion::Schedule;
-use crate::word::{choose, low_byte, majority, upper0, upper1};
+use crate::word::{choose, majority, upper0, upper1};
 use fips180::{Block, State};
 
 // §4.2.2
@@ -41,20 +40,23 @@ pub fn start() -> State
 }
 
 // Step 3: one round, with its constant and its word.
+#[tactic(auto, unfolding(fips180::specs::Sha256::round_of))]
 fn round(v: State, k: u32, w: u32) -> State
     ensures { result ≡ round_of k w v }
 {
-    let x1 = std::num::wrapping_add_u32(v.h, upper1(v.e));
-    let x2 = std::num::wrapping_add_u32(x1, choose(v.e, v.f, v.g));
-    let x3 = std::num::wrapping_add_u32(x2, k);
-    let t1 = std::num::wrapping_add_u32(x3, w);
-    let t2 = std::num::wrapping_add_u32(upper0(v.a), majority(v.a, v.b, v.c));
+    let t1 = v
+        .h
+        .wrapping_add(upper1(v.e))
+        .wrapping_add(choose(v.e, v.f, v.g))
+        .wrapping_add(k)
+        .wrapping_add(w);
+    let t2 = upper0(v.a).wrapping_add(majority(v.a, v.b, v.c));
     State {
-        a: std::num::wrapping_add_u32(t1, t2),
+        a: t1.wrapping_add(t2),
         b: v.a,
         c: v.b,
         d: v.c,
-        e: std::num::wrapping_add_u32(v.d, t1),
+        e: v.d.wrapping_add(t1),
         f: v.e,
         g: v.f,
         h: v.g,
@@ -62,34 +64,36 @@ fn round(v: State, k: u32, w: u32) -> State
 }
 
 // Step 3: all the rounds, on a block's schedule.
+#[tactic(auto, unfolding(fips180::specs::Sha256::rounds_of))]
 fn rounds(v: State, s: Schedule) -> State
     ensures { result ≡ rounds_of s.words v 64 }
 {
-    let k = K;
     let mut u = v;
     for t in 0..Schedule::WORDS {
-        u = round(u, k[t], s.words[t]);
+        u = round(u, K[t], s.words[t]);
     }
     u
 }
 
 // Step 4: the hash value with what its rounds gave, word by word.
+#[tactic(auto, unfolding(fips180::specs::Sha256::fed))]
 fn feed(v: State, w: State) -> State
     ensures { result ≡ fed v w }
 {
     State {
-        a: std::num::wrapping_add_u32(w.a, v.a),
-        b: std::num::wrapping_add_u32(w.b, v.b),
-        c: std::num::wrapping_add_u32(w.c, v.c),
-        d: std::num::wrapping_add_u32(w.d, v.d),
-        e: std::num::wrapping_add_u32(w.e, v.e),
-        f: std::num::wrapping_add_u32(w.f, v.f),
-        g: std::num::wrapping_add_u32(w.g, v.g),
-        h: std::num::wrapping_add_u32(w.h, v.h),
+        a: w.a.wrapping_add(v.a),
+        b: w.b.wrapping_add(v.b),
+        c: w.c.wrapping_add(v.c),
+        d: w.d.wrapping_add(v.d),
+        e: w.e.wrapping_add(v.e),
+        f: w.f.wrapping_add(v.f),
+        g: w.g.wrapping_add(v.g),
+        h: w.h.wrapping_add(v.h),
     }
 }
 
 // The hash value after one more block.
+#[tactic(auto, unfolding(fips180::specs::Sha256::compressed))]
 pub fn compress(v: State, b: Block) -> State
     ensures { result ≡ compressed v b.bytes }
 {
@@ -100,26 +104,10 @@ pub fn compress(v: State, b: Block) -> State
 pub fn bytes(v: State) -> [u8; State::BYTES]
     ensures { result ≡ state_bytes v }
 {
-    let o = [0u8; State::BYTES];
-    let o = put4(o, 0, v.a);
-    let o = put4(o, 4, v.b);
-    let o = put4(o, 8, v.c);
-    let o = put4(o, 12, v.d);
-    let o = put4(o, 16, v.e);
-    let o = put4(o, 20, v.f);
-    let o = put4(o, 24, v.g);
-    put4(o, 28, v.h)
-}
-
-// The four bytes of x, the highest first, at i in out.
-fn put4(out: [u8; State::BYTES], i: usize, x: u32) -> [u8; State::BYTES]
-    requires { i < 29 }
-    ensures { result ≡ sets out i (be 4 x) }
-{
-    let mut o = out;
-    o[i] = low_byte(x >> 24);
-    o[i + 1] = low_byte(x >> 16);
-    o[i + 2] = low_byte(x >> 8);
-    o[i + 3] = low_byte(x);
-    o
+    let words = [v.a, v.b, v.c, v.d, v.e, v.f, v.g, v.h];
+    let mut out = [0u8; State::BYTES];
+    for i in 0..State::WORDS {
+        out[i * 4..i * 4 + 4].copy_from_slice(&words[i].to_be_bytes());
+    }
+    out
 }

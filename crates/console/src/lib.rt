@@ -38,6 +38,7 @@ pub fn has_arguments<R: Env + Eprint>(rt: &R, program: &str) -> bool {
 pub fn read<R: Input>(rt: &R, buf: &mut [u8]) -> Result<usize, Failure>
     ensures { IfOk result (λ n. n ≤ length buf.old) }
 {
+    // No method of std: `read_exact` refuses a short input, and `io::copy` does not promise what `read` ensures.
     let mut reader = rt.reader();
     let mut at: usize = 0;
     for _ in 0..u64::MAX {
@@ -47,13 +48,12 @@ pub fn read<R: Input>(rt: &R, buf: &mut [u8]) -> Result<usize, Failure>
         match reader.read(&mut buf[at..]) {
             Ok(0) => break,
             Ok(n) => at += n,
+            Err(why) if why.kind() == io::ErrorKind::Interrupted => {}
             Err(why) => {
-                if why.kind() != io::ErrorKind::Interrupted {
-                    return Err(Failure {
-                        stream: "standard input",
-                        why,
-                    });
-                }
+                return Err(Failure {
+                    stream: "standard input",
+                    why,
+                });
             }
         }
     }
@@ -62,11 +62,8 @@ pub fn read<R: Input>(rt: &R, buf: &mut [u8]) -> Result<usize, Failure>
 
 // Writes all of a text to standard output.
 pub fn write<R: Print>(rt: &R, text: &[u8]) -> Result<(), Failure> {
-    match rt.write_all(text) {
-        Ok(()) => Ok(()),
-        Err(why) => Err(Failure {
-            stream: "standard output",
-            why,
-        }),
-    }
+    rt.write_all(text).map_err(|why| Failure {
+        stream: "standard output",
+        why,
+    })
 }

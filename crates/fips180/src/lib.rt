@@ -1,6 +1,9 @@
 // The types of SHA-256. What it computes is in specs/, section by section of FIPS 180-4; no function of it is here.
 #![tactic(auto)]
 
+ghost use Rattle.std.specs.Prelude.{◌≡◌};
+ghost use Rattle.fips180.specs.Digest.{long_number};
+
 // The eight working variables, or the eight words of a hash value (§6.2.2).
 #[derive(Clone, Copy)]
 pub struct State {
@@ -30,20 +33,26 @@ impl Block {
     pub const BYTES: usize = 64;
 }
 
-// The answer of `sha256`: its code, and the digest where that is `DONE`.
+// The digest of a message: its bytes are a plain array, and its sizes stand here.
 #[derive(Clone, Copy)]
-pub struct Digest {
-    pub code: u8,
-    pub bytes: [u8; Digest::BYTES],
-}
+pub struct Digest;
 
 impl Digest {
     pub const BYTES: usize = State::BYTES;
 
     // The most bytes of a message.
     pub const MOST: usize = 55;
+}
 
-    pub const DONE: u8 = 0;
+// Why a message has no digest: it has more than `Digest::MOST` bytes.
+#[derive(Clone, Copy, PartialEq, Eq, Debug)]
+pub struct DigestLong;
 
-    pub const LONG: u8 = 28;
+// The code that document 01 gives it.
+impl From<DigestLong> for u8 {
+    ghost from_gives = { λ why n. n ≡ long_number why };
+
+    fn from(_why: DigestLong) -> u8 {
+        28
+    }
 }

@@ -7,9 +7,10 @@ use native.Mathlib.Omega.{arith}
 use lib.Dec.{eqb, leb}
 use lib.ListN.{length, get_or}
 use borrow.Author.Tests.{eqb-true, leb-true}
+use Rattle.std.proofs.lemmas.Bool.{cases_lt}
+use Rattle.std.proofs.lemmas.List.{get_or_past}
 use Rattle.search.specs.Search.{first_from, every}
-use Rattle.search.proofs.Lists.{get_d_out}
-use Rattle.search.proofs.Booleans.{either, less?}
+use Rattle.search.proofs.Booleans.{either}
 use Rattle.search.proofs.Every.{every_at}
 use Rattle.format.specs.declared.kinds.Kind.{Kind}
 use Rattle.format.specs.declared.kinds.Form.{Form}
@@ -19,7 +20,7 @@ use Rattle.format.specs.Records.{start_body, kinds, form_of}
 -- past the table there is no kind
 pub no_kind : (k : ℕ) → length kinds ≤ k → form_of k ≡ Bad
 unfolding form_of
-no_kind k h = get_d_out kinds k Bad h
+no_kind k h = get_or_past kinds k Bad h
 
 -- a number that is none of the first ones is a later one
 pub later : {n k : ℕ} → n ≤ k → k ≢ n → suc n ≤ k
@@ -38,9 +39,9 @@ all_fit = refl
 pub fits_at : (k : ℕ) → fits (form_of k) ≡ true
 unfolding form_of
 fits_at k =
-    either (less? k (length kinds))
+    either (cases_lt k (length kinds))
     (λ (h : k < length kinds). every_at (λ (i : ℕ). fits (get_or kinds i Bad)) (length kinds) all_fit k h)
-    (λ (h : length kinds ≤ k). rw (get_d_out kinds k Bad h))
+    (λ (h : length kinds ≤ k). rw (get_or_past kinds k Bad h))
 
 pub start_body_lem : (k body : ℕ) → form_of k ≡ Start body → body ≡ start_body
 start_body_lem k body e = eqb-true body start_body (rw e at (fits_at k))

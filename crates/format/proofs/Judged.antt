@@ -1,5 +1,6 @@
 -- What it means that a schedule is accepted, and where a refused one is refused. Assumes nothing.
-use mathlib.Core.Path.{◌≡◌, refl, ◌∙◌}
+use Rattle.std.specs.Prelude.{Ok, Err}
+use mathlib.Core.Path.{◌≡◌, refl, ap, ◌∙◌}
 use mathlib.Core.Bool.{Bool, true, false}
 use mathlib.Core.List.{List}
 use Prim.Native.Nat.{ℕ, zero, suc, ◌+◌, ◌-◌, ◌*◌, ◌≤◌}
@@ -13,53 +14,52 @@ use Rattle.format.specs.declared.kinds.Form.{Form}
 use Rattle.format.specs.declared.kinds.Form.TheVariants.{Start, Step, Bad}
 use Rattle.format.specs.declared.refusal.Refusal.{Refusal}
 use Rattle.format.specs.declared.refusal.Refusal.TheVariants.{TooLong, Cut, BadStart}
+use Rattle.format.specs.declared.refusal.Refused.{Refused}
 use Rattle.format.specs.declared.reading.Read.{Read}
 use Rattle.format.specs.declared.reading.Read.TheVariants as read
-use Rattle.format.specs.declared.verdict.Verdict.{Verdict}
-use Rattle.format.specs.declared.verdict.Verdict.TheVariants.{Accepted, Refused}
 use Rattle.format.specs.Fields.{byte_at}
 use Rattle.format.specs.Records.{start_body, start_bytes, form_of, read_at, Asked, asked_by, asked_after, asked}
-use Rattle.format.specs.Judging.{schedule_most, scan_by, scan_from, scanned, start_roster, start_judged, records_judged, judged, AcceptedMeans, RefusedThere, RecordsFirst}
+use Rattle.format.specs.Judging.{schedule_most, Verdict, refused, scan_by, scan_from, scanned, start_roster, start_judged, records_judged, judged, AcceptedMeans, RefusedThere, RecordsFirst}
 use Rattle.format.proofs.Forms.{start_body_lem}
 use Rattle.format.proofs.Reader.{known}
 
 -- a refusal is no acceptance
-pub never : {A : Type 0} {why : Refusal} {at k : ℕ} → Refused why at ≡ Accepted k → A
+pub never : {A : Type 0} {why : Refusal} {at k : ℕ} → refused why at ≡ Ok k → A
 never e = let z : ◌≡◌ {A = ℕ} 0 1 = cc in absurd (omega arith)
 
-never_back : {A : Type 0} {why : Refusal} {at k : ℕ} → Accepted k ≡ Refused why at → A
+never_back : {A : Type 0} {why : Refusal} {at k : ℕ} → Ok k ≡ refused why at → A
 never_back e = let z : ◌≡◌ {A = ℕ} 0 1 = cc in absurd (omega arith)
 
 -- a test before an acceptance was passed
-pub must_accepts : (t : Bool) (why : Refusal) (at n : ℕ) (v : Verdict) → must t (Refused why at) v ≡ Accepted n → (t ≡ true) × (v ≡ Accepted n)
+pub must_accepts : (t : Bool) (why : Refusal) (at n : ℕ) (v : Verdict) → must t (refused why at) v ≡ Ok n → (t ≡ true) × (v ≡ Ok n)
 unfolding must
 must_accepts true why at n v e = (refl, e)
 must_accepts false why at n v e = never e
 
 -- a scan that accepts has counted the records
-count_by : (s : List ℕ) (x : Read) (at k n : ℕ) (more : ℕ → Verdict) (rest : ℕ → List Asked) → ((next : ℕ) → more next ≡ Accepted n → n ≡ k + 1 + length (rest next))
-    → scan_by more x at k ≡ Accepted n → n ≡ k + length (asked_by rest s x)
+count_by : (s : List ℕ) (x : Read) (at k n : ℕ) (more : ℕ → Verdict) (rest : ℕ → List Asked) → ((next : ℕ) → more next ≡ Ok n → n ≡ k + 1 + length (rest next))
+    → scan_by more x at k ≡ Ok n → n ≡ k + length (asked_by rest s x)
 unfolding scan_by asked_by
 count_by s (read.Record j b next) at k n more rest h e = h next e ∙ omega arith
 count_by s (read.Refused why) at k n more rest h e = never e
 count_by s read.End at k n more rest h e = let z : k ≡ n = cc in omega arith
 
-count_from : (s : List ℕ) (fuel at k n : ℕ) → scan_from s fuel at k ≡ Accepted n → n ≡ k + length (asked_after s fuel at)
+count_from : (s : List ℕ) (fuel at k n : ℕ) → scan_from s fuel at k ≡ Ok n → n ≡ k + length (asked_after s fuel at)
 unfolding scan_from asked_after
 count_from s zero at k n e = let z : k ≡ n = cc in omega arith
 count_from s (suc fuel) at k n e = count_by s (read_at s at) at k n _ _ (λ next d. count_from s fuel next (k + 1) n d) e
 
-scan_count : (s : List ℕ) (n : ℕ) → scanned s start_bytes ≡ Accepted n → n ≡ length (asked s)
+scan_count : (s : List ℕ) (n : ℕ) → scanned s start_bytes ≡ Ok n → n ≡ length (asked s)
 unfolding scanned
 scan_count s n e = count_from s (length s) start_bytes 0 n e ∙ omega arith
 
 -- the start's tests, the first record's, and the length's
-started : (s : List ℕ) (n : ℕ) (v : Verdict) → start_judged s v ≡ Accepted n → (good_roster (start_roster s) ≡ true) × (v ≡ Accepted n)
-started s n (Accepted k) e = must_accepts (good_roster (start_roster s)) BadStart 0 n (Accepted k) e
-started s n (Refused why at) e = never e
+started : (s : List ℕ) (n : ℕ) (v : Verdict) → start_judged s v ≡ Ok n → (good_roster (start_roster s) ≡ true) × (v ≡ Ok n)
+started s n (Ok k) e = must_accepts (good_roster (start_roster s)) BadStart 0 n (Ok k) e
+started s n (Err x) e = never e
 
-formed : (s : List ℕ) (n : ℕ) (f : Form) → form_of (byte_at s 0) ≡ f → records_judged s f ≡ Accepted n
-    → (good_roster (start_roster s) ≡ true) × (scanned s start_bytes ≡ Accepted n)
+formed : (s : List ℕ) (n : ℕ) (f : Form) → form_of (byte_at s 0) ≡ f → records_judged s f ≡ Ok n
+    → (good_roster (start_roster s) ≡ true) × (scanned s start_bytes ≡ Ok n)
 unfolding records_judged
 formed s n (Start b) q e =
     let z : b ≡ start_body = start_body_lem (byte_at s 0) b q in
@@ -76,13 +76,15 @@ accepted_means s n e =
 
 -- a refused record
 there_by : (s : List ℕ) (x : Read) (at k to : ℕ) (why : Refusal) (more : ℕ → Verdict) → read_at s at ≡ x
-    → ((next : ℕ) → more next ≡ Refused why to → read_at s to ≡ read.Refused why) → scan_by more x at k ≡ Refused why to → read_at s to ≡ read.Refused why
+    → ((next : ℕ) → more next ≡ refused why to → read_at s to ≡ read.Refused why) → scan_by more x at k ≡ refused why to → read_at s to ≡ read.Refused why
 unfolding scan_by
 there_by s (read.Record j b next) at k to why more q h e = h next e
-there_by s (read.Refused y) at k to why more q h e = let z : at ≡ to = cc in let w : read.Refused y ≡ read.Refused why = cc in rw (← z) (q ∙ w)
+there_by s (read.Refused y) at k to why more q h e =
+    let r : ◌≡◌ {A = Refused} (record { why = y; offset = at }) (record { why = why; offset = to }) = cc in
+    rw (← ap (λ (x : Refused). x.offset) r) (q ∙ ap (λ (x : Refused). read.Refused x.why) r)
 there_by s read.End at k to why more q h e = never_back e
 
-there_from : (s : List ℕ) (fuel at k to : ℕ) (why : Refusal) → scan_from s fuel at k ≡ Refused why to → read_at s to ≡ read.Refused why
+there_from : (s : List ℕ) (fuel at k to : ℕ) (why : Refusal) → scan_from s fuel at k ≡ refused why to → read_at s to ≡ read.Refused why
 unfolding scan_from
 there_from s zero at k to why e = never_back e
 there_from s (suc fuel) at k to why e = there_by s (read_at s at) at k to why _ refl (λ next d. there_from s fuel next (k + 1) to why d) e

@@ -1,4 +1,5 @@
+pub mod Bodies
 pub mod Forms
-pub mod Reader
 pub mod Judged
+pub mod Reader
 pub mod Unique

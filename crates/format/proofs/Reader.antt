@@ -1,4 +1,5 @@
 -- What the record reader tells, and the law of the loop that scans a schedule. Assumes nothing.
+use Rattle.std.specs.Prelude.{Ok}
 use mathlib.Core.Path.{◌≡◌, refl, sym, ◌∙◌}
 use mathlib.Core.Bool.{Bool, true, false, cond}
 use mathlib.Core.List.{List}
@@ -7,7 +8,6 @@ use native.Mathlib.Omega.{arith}
 use borrow.Author.Tests.{leb-true, leb-false}
 use lib.Dec.{leb}
 use lib.ListN.{length}
-use Rattle.search.proofs.Lists.{get_d_out}
 use Rattle.format.specs.declared.kinds.Kind.{Kind}
 use Rattle.format.specs.declared.kinds.Form.{Form}
 use Rattle.format.specs.declared.kinds.Form.TheVariants.{Start, Step, Bad}
@@ -15,11 +15,10 @@ use Rattle.format.specs.declared.refusal.Refusal.{Refusal}
 use Rattle.format.specs.declared.refusal.Refusal.TheVariants.{Cut, NoStart}
 use Rattle.format.specs.declared.reading.Read.{Read}
 use Rattle.format.specs.declared.reading.Read.TheVariants.{Record, Refused, End}
-use Rattle.format.specs.declared.verdict.Verdict.TheVariants as verdict
 use Rattle.format.specs.Fields.{byte_at}
 use Rattle.format.specs.Records.{form_of, read_by, read_at}
 use Rattle.format.proofs.Forms.{step_body}
-use Rattle.format.specs.Judging.{scan_by, scan_from, scanned, records_judged}
+use Rattle.format.specs.Judging.{refused, scan_by, scan_from, scanned, records_judged}
 
 -- where a whole record lies: it has two bytes at least, its kind and a body of one or more
 pub record Known (s : List ℕ) (at b next : ℕ) : Type 0 where
@@ -76,12 +75,12 @@ scan_on s from at k b next j q i =
     record { near = omega arith; same = i.same ∙ rw f (scan_more s (length s - (k + 1)) at k b next j q) }
 
 -- a scan ends where nothing stands, and where what stands is refused
-ends_none : (s : List ℕ) (fuel at k : ℕ) → read_at s at ≡ End → scan_from s fuel at k ≡ verdict.Accepted k
+ends_none : (s : List ℕ) (fuel at k : ℕ) → read_at s at ≡ End → scan_from s fuel at k ≡ Ok k
 unfolding scan_from scan_by
 ends_none s zero at k q = refl
 ends_none s (suc fuel) at k q = rw q
 
-pub scan_accepts : (s : List ℕ) (from at k : ℕ) → Scanning s from at k → read_at s at ≡ End → verdict.Accepted k ≡ scanned s from
+pub scan_accepts : (s : List ℕ) (from at k : ℕ) → Scanning s from at k → read_at s at ≡ End → Ok k ≡ scanned s from
 scan_accepts s from at k i q = sym (i.same ∙ ends_none s (length s - k) at k q)
 
 in_by : (s : List ℕ) (at : ℕ) (why : Refusal) (t : Bool) → t ≡ leb (length s) at → cond t End (read_by s at (form_of (byte_at s at))) ≡ Refused why → at < length s
@@ -92,11 +91,11 @@ refused_in : (s : List ℕ) (at : ℕ) (why : Refusal) → read_at s at ≡ Refu
 unfolding read_at
 refused_in s at why r = in_by s at why (leb (length s) at) refl r
 
-scan_stops : (s : List ℕ) (fuel at k : ℕ) (why : Refusal) → read_at s at ≡ Refused why → scan_from s (suc fuel) at k ≡ verdict.Refused why at
+scan_stops : (s : List ℕ) (fuel at k : ℕ) (why : Refusal) → read_at s at ≡ Refused why → scan_from s (suc fuel) at k ≡ refused why at
 unfolding scan_from scan_by
 scan_stops s fuel at k why q = rw q
 
-pub scan_refuses : (s : List ℕ) (from at k : ℕ) (why : Refusal) → Scanning s from at k → read_at s at ≡ Refused why → verdict.Refused why at ≡ scanned s from
+pub scan_refuses : (s : List ℕ) (from at k : ℕ) (why : Refusal) → Scanning s from at k → read_at s at ≡ Refused why → refused why at ≡ scanned s from
 scan_refuses s from at k why i q =
     let n : k ≤ at = i.near in
     let f : length s - k ≡ suc (length s - (k + 1)) = omega (arith, refused_in s at why q) in
@@ -121,12 +120,8 @@ only_end (Refused why) g h = absurd (h why refl)
 only_end End g h = refl
 
 -- nor a start's
-pub no_start : (s : List ℕ) (f : Form) → ((body : ℕ) → f ≡ Start body → ⊥) → verdict.Refused NoStart 0 ≡ records_judged s f
+pub no_start : (s : List ℕ) (f : Form) → ((body : ℕ) → f ≡ Start body → ⊥) → refused NoStart 0 ≡ records_judged s f
 unfolding records_judged
 no_start s (Start body) h = absurd (h body refl)
 no_start s (Step k body) h = refl
 no_start s Bad h = refl
-
-pub empty_start : (s : List ℕ) → length s ≡ 0 → verdict.Refused NoStart 0 ≡ records_judged s (form_of (byte_at s 0))
-unfolding records_judged form_of
-empty_start s h = rw (get_d_out s 0 0 (omega arith))

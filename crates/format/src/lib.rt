@@ -5,13 +5,11 @@
 mod kinds;
 mod reading;
 mod refusal;
-mod verdict;
 
 use fips180::Digest;
 pub use kinds::{Act, Form, Kind};
 pub use reading::Read;
-pub use refusal::Refusal;
-pub use verdict::Verdict;
+pub use refusal::{Refusal, Refused};
 
 // A schedule's sizes in bytes.
 #[derive(Clone, Copy)]

@@ -3,7 +3,7 @@ ghost use Rattle.std.specs.Prelude.{◌≡◌};
 ghost use Rattle.format.specs.Judging.{refusal_code};
 
 // Why a schedule, a start or a single step is refused.
-#[derive(Clone, Copy)]
+#[derive(Clone, Copy, Debug, PartialEq, Eq)]
 pub enum Refusal {
     TooLong,
     NoStart,
@@ -15,12 +15,12 @@ pub enum Refusal {
     BadWorld,
 }
 
-impl Refusal {
+impl From<Refusal> for u8 {
+    ghost from_gives = { λ why code. code ≡ refusal_code why };
+
     // The code that document 01 gives it.
-    pub fn code(self) -> u8
-        ensures { result ≡ refusal_code self }
-    {
-        match self {
+    fn from(why: Refusal) -> u8 {
+        match why {
             Refusal::TooLong => 20,
             Refusal::NoStart => 21,
             Refusal::BadKind => 22,
@@ -30,5 +30,21 @@ impl Refusal {
             Refusal::OutSmall => 26,
             Refusal::BadWorld => 27,
         }
+    }
+}
+
+// The refusal of a whole schedule, and the offset.
+#[derive(Clone, Copy, Debug, PartialEq, Eq)]
+pub struct Refused {
+    pub why: Refusal,
+    pub offset: usize,
+}
+
+impl Refused {
+    // Why, and the offset.
+    pub fn new(why: Refusal, offset: usize) -> Refused
+        ensures { result ≡ record { why = why; offset = offset } }
+    {
+        Refused { why, offset }
     }
 }

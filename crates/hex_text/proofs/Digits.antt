@@ -1,31 +1,30 @@
--- Laws of the loop that writes the digits. Assumes nothing.
-use mathlib.Core.Path.{◌≡◌, sym, ap, ◌∙◌}
-use mathlib.Core.List.{List, [], ◌∷◌, ◌++◌, append_assoc}
-use Prim.Native.Nat.{ℕ, ◌+◌, ◌*◌, ◌/◌, ◌%◌, ◌<◌}
-use native.Mathlib.Numerals.{add-one}
-use native.Mathlib.Omega.{arith}
-use lib.ListN.{length, get_or, take, set, length-set}
-use lib.Seq.{take_all, take-suc, get_or-set_other}
-use Rattle.search.proofs.Filling.{stored}
+-- The digits of bytes, as the library `hex` writes them. Assumes nothing.
+use Rattle.std.proofs.Common.{◌≡◌, ℕ, zero, suc, ◌/◌, ◌%◌, ◌<◌, ◌≤◌, ◌==◌, List, [], ◌∷◌, ◌++◌, length, get_or, take, slice_index, refl, sym, ap, ◌∙◌, arith, take_all}
+use lib.Seq.{take-suc}
+use Rattle.std.proofs.lemmas.Bool.{eqb-true}
+use Rattle.search.specs.Search.{first_from}
+use Rattle.search.proofs.Every.{every_at}
+use Rattle.hex.specs.Hex.{IsBytes, encode_with, encode_lower, lower_digits}
 use Rattle.hex_text.specs.Hex.{digit, hex_digits}
 
--- two more digits
-pub more_digits : (text bs : List ℕ) (i x y : ℕ) → i * 2 + 1 < length text → take (i * 2) text ≡ hex_digits bs i → x ≡ digit (get_or bs i 0 / 16) → y ≡ digit (get_or bs i 0 % 16)
-    → take ((i + 1) * 2) (set (set text (i * 2) x) (i * 2 + 1) y) ≡ hex_digits bs (i + 1)
-unfolding hex_digits
-more_digits text bs i x y h e p q =
-    let n : (i + 1) * 2 ≡ i * 2 + 1 + 1 = omega arith in
-    let l : i * 2 + 1 < length (set text (i * 2) x) = simp length-set h in
-    rw (n, stored (set text (i * 2) x) (hex_digits bs i ++ x ∷ []) (i * 2 + 1) y l (stored text (hex_digits bs i) (i * 2) x (omega arith) e), append_assoc, add-one i, p, q)
+-- the digit of a number below 16, as the table has it
+digit_is : (n : ℕ) → n < 16 → slice_index lower_digits n ≡ digit n
+unfolding first_from
+digit_is n h = eqb-true _ _ (every_at (λ (k : ℕ). slice_index lower_digits k == digit k) 16 refl n h)
 
--- a text of n characters and one more
-pub with_last : (text l : List ℕ) (n x : ℕ) → length text ≡ n + 1 → take n text ≡ l → get_or text n 0 ≡ x → text ≡ l ++ x ∷ []
-with_last text l n x h e q =
-    sym (take_all (n + 1) text (omega arith)) ∙ ap (λ (m : ℕ). take m text) (add-one n) ∙ take-suc text n 0 (omega arith)
-    ∙ ap (λ (r : List ℕ). r ++ get_or text n 0 ∷ []) e ∙ ap (λ (c : ℕ). l ++ c ∷ []) q
+encode-append : (t xs ys : List ℕ) → encode_with t (xs ++ ys) ≡ encode_with t xs ++ encode_with t ys
+unfolding encode_with
+encode-append t [] ys = refl
+encode-append t (b ∷ xs) ys = rw (encode-append t xs ys) refl
 
--- two digits stored ahead of the place n leave it as it was
-pub kept_behind : (text : List ℕ) (i n x y : ℕ) → i * 2 + 1 < n → get_or (set (set text (i * 2) x) (i * 2 + 1) y) n 0 ≡ get_or text n 0
-kept_behind text i n x y h =
-    get_or-set_other (set text (i * 2) x) (i * 2 + 1) n y 0 (λ (e : n ≡ i * 2 + 1). omega arith)
-    ∙ get_or-set_other text (i * 2) n x 0 (λ (e : n ≡ i * 2). omega arith)
+encode_first : (bs : List ℕ) → IsBytes bs → (n : ℕ) → n ≤ length bs → encode_lower (take n bs) ≡ hex_digits bs n
+unfolding encode_with hex_digits
+encode_first bs b zero h = refl
+encode_first bs b (suc n) h =
+    let f : get_or bs n 0 < 256 = b n in
+    let x = digit_is (get_or bs n 0 / 16) (omega arith) in
+    let y = digit_is (get_or bs n 0 % 16) (omega arith) in
+    rw (take-suc bs n 0 h, encode-append, encode_first bs b n (omega arith), x, y) refl
+
+pub encode_is : (bs : List ℕ) (n : ℕ) → IsBytes bs → length bs ≡ n → encode_lower bs ≡ hex_digits bs n
+encode_is bs n b e = ap encode_lower (sym (take_all n bs (omega arith))) ∙ encode_first bs b n (omega arith)

@@ -2,7 +2,7 @@
 #![tactic(auto)]
 
 ghost use Rattle.std.specs.Prelude.{◌≡◌};
-ghost use Rattle.hex_text.specs.Hex.{digit, hex_line};
+ghost use Rattle.hex_text.specs.Hex.{hex_line};
 
 use fips180::Digest;
 
@@ -13,26 +13,19 @@ pub struct Line {
 }
 
 impl Line {
-    pub const BYTES: usize = 2 * Digest::BYTES + 1;
+    // The digits of a digest.
+    pub const DIGITS: usize = 2 * Digest::BYTES;
 
-    // The digest in hex, lower case, highest digit first.
-    pub fn of(bytes: [u8; Digest::BYTES]) -> Line
-        ensures { result.text ≡ hex_line bytes }
-    {
-        let mut text = [b'\n'; Line::BYTES];
-        let mut i: usize = 0;
-        while i < Digest::BYTES {
-            text[i * 2] = hex_digit(bytes[i] / 16);
-            text[i * 2 + 1] = hex_digit(bytes[i] % 16);
-            i += 1;
-        }
-        Line { text }
-    }
+    pub const BYTES: usize = Line::DIGITS + 1;
 }
 
-// The digit of a number below 16.
-fn hex_digit(n: u8) -> u8
-    ensures { result ≡ digit n }
-{
-    if n < 10 { b'0' + n } else { b'a' - 10 + n % 16 }
+// The digest in hex, lower case, highest digit first.
+impl From<[u8; Digest::BYTES]> for Line {
+    ghost from_gives = { λ bytes line. line.text ≡ hex_line bytes };
+
+    fn from(bytes: [u8; Digest::BYTES]) -> Line {
+        let mut text = [b'\n'; Line::BYTES];
+        hex::encode_to_slice(bytes, &mut text[..Line::DIGITS]).unwrap();
+        Line { text }
+    }
 }

@@ -7,6 +7,7 @@ use Prim.Native.Nat.{ℕ, ◌<◌}
 use lib.Dec.{ltb}
 use lib.ListN.{length}
 use borrow.Author.Tests.{ltb-true}
+use Rattle.std.proofs.lemmas.Bool.{and_parts, not-true}
 use Rattle.world.specs.declared.roster.Roster.{Roster}
 use Rattle.world.specs.declared.execution.Executions.{Executions}
 use Rattle.world.specs.Sizes.{servers, executions_most}
@@ -17,7 +18,7 @@ use Rattle.world.specs.Executions.{execution_at, execution_of}
 use Rattle.protocol.specs.declared.boxes.Boxes.{Boxes}
 use Rattle.protocol.specs.declared.boxes.Ruling.{Ruling}
 use Rattle.protocol.specs.Rules.{forge_send_of, forge_receive_to, forge_receive_found, forge_receive_of}
-use Rattle.search.proofs.Booleans.{apart, musts, and2, not_out}
+use Rattle.search.proofs.Booleans.{apart, musts}
 use Rattle.kept.proofs.Ordering.{found_made, not_found, made_fits, recorded_fits}
 use Rattle.kept.proofs.Putting.{Fits, Keeps}
 
@@ -34,8 +35,8 @@ module _ {r : Roster} {stored m : ℕ} {ts : List Executions} (all : length ts �
       let q = at mine in
       rw q
       (made_fits (rw q at f) all (rw q at seated) mine id digest (ltb-true b.executions.count executions_most room)
-      (λ j l. not_found b.executions id j (not_out _ none) f.table.most l)
-      (λ good. apart (faulty r server) bad (not_out (faulty r server) (and2 (member r server) (not (faulty r server)) good).1)))
+      (λ j l. not_found b.executions id j (not-true _ none) f.table.most l)
+      (λ good. apart (faulty r server) bad (not-true (faulty r server) (and_parts (member r server) (not (faulty r server)) good).1)))
 
   module _ {s h x : ℕ} {b : Boxes} (seated : s < servers) (named : x < servers) (f : Fits r stored m ts s h x b) (server : ℕ) (at : member r server ≡ true → s ≡ server) where
     received : (digest : List ℕ) (id : ℕ) → member r server ≡ true → member r x ≡ true → (g : Option ℕ) → g ≡ execution_of b.executions id
@@ -56,5 +57,5 @@ module _ {r : Roster} {stored m : ℕ} {ts : List Executions} (all : length ts �
         let P : Ruling → Type 0 = Keeps r stored m ts s h x in
         musts P (member r server && member r sender) _ _ f λ both.
         musts P (faulty r server) _ _ f λ _.
-        let a = and2 (member r server) (member r sender) both in
+        let a = and_parts (member r server) (member r sender) both in
         received digest id a.0 (rw (from a.1) a.1) _ refl

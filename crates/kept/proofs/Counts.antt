@@ -6,9 +6,10 @@ use Prim.Native.Nat.{ℕ, zero, suc, ◌+◌, ◌<◌, ◌≤◌}
 use native.Mathlib.Omega.{arith}
 use lib.Dec.{eqb}
 use borrow.Author.Tests.{eq-eqb, ne_eqb}
+use Rattle.std.proofs.lemmas.Bool.{cases_eq}
 use Rattle.search.specs.Search.{any, count}
 use Rattle.search.proofs.Laws.{count_same}
-use Rattle.search.proofs.Booleans.{either, test, same?}
+use Rattle.search.proofs.Booleans.{either, test}
 use Rattle.search.proofs.Every.{any_none}
 
 count_none : (t : ℕ → Bool) (n : ℕ) → ((i : ℕ) → i < n → t i ≡ false) → count t n ≡ 0
@@ -25,7 +26,7 @@ count_one : (t : ℕ → Bool) (z n : ℕ) → z < n → t z ≡ true → ((i : 
 unfolding count
 count_one t z zero p e h = absurd (omega arith)
 count_one t z (suc n) p e h =
-    either (same? z n)
+    either (cases_eq z n)
     (λ (s : z ≡ n). let a = count_none t n (λ i q. h i (omega arith) (omega arith)) in let y : t n ≡ true = rw (← s) e in rw y (omega arith))
     (λ (s : z ≢ n). let a = count_one t z n (omega arith) e (λ i q d. h i (omega arith) d) in rw (h n (omega arith) (omega arith)) (omega arith))
 
@@ -43,7 +44,7 @@ count_less : (t : ℕ → Bool) (z n : ℕ) → z < n → t z ≡ false → coun
 unfolding count
 count_less t z zero p e = absurd (omega arith)
 count_less t z (suc n) p e =
-    either (same? z n)
+    either (cases_eq z n)
     (λ (s : z ≡ n). let a = count_most t n in let y : t n ≡ false = rw (← s) e in rw y (omega arith))
     (λ (s : z ≢ n). let a = count_less t z n (omega arith) e in let b = at_most_one (t n) in omega arith)
 
@@ -77,7 +78,7 @@ hits_one : (v m : ℕ) → hits v m ≤ 1
 unfolding hits
 hits_one v zero = omega arith
 hits_one v (suc m) =
-    either (same? v (m + 1))
+    either (cases_eq v (m + 1))
     (λ (e : v ≡ m + 1). let a = hits_none v m (λ z. omega arith) (omega arith) in let b = at_most_one (eqb v (m + 1)) in omega arith)
     (λ (e : v ≢ m + 1). let a = hits_one v m in rw (ne_eqb v (m + 1) e) (omega arith))
 
@@ -88,7 +89,7 @@ hits_zero (suc m) = let a = hits_zero m in rw (ne_eqb 0 (m + 1) (λ e. omega ari
 
 hits_most : (v m : ℕ) → hits v m ≤ cond (not (eqb v 0)) 1 0
 hits_most v m =
-    either (same? v 0)
+    either (cases_eq v 0)
     (λ (e : v ≡ 0). rw (e, hits_zero m) (omega arith))
     (λ (e : v ≢ 0). rw (ne_eqb v 0 e) (hits_one v m))
 
@@ -122,7 +123,7 @@ module _ (f g : ℕ → ℕ) (n m z : ℕ) (s : Numbers f n m) (p : z < n) (none
     (else : (i : ℕ) → i < n → i ≢ z → g i ≡ f i) where
   more_low : (i : ℕ) → i < n → g i ≤ m + 1
   more_low i q =
-      either (same? i z)
+      either (cases_eq i z)
       (λ (e : i ≡ z). rw (e, next) (omega arith))
       (λ (e : i ≢ z). rw (else i q e) (omega (arith, s.low i q)))
 
@@ -135,7 +136,7 @@ module _ (f g : ℕ → ℕ) (n m z : ℕ) (s : Numbers f n m) (p : z < n) (none
 
   older : (k : ℕ) → k < m → (i : ℕ) → i < n → eqb (g i) (k + 1) ≡ eqb (f i) (k + 1)
   older k l i q =
-      either (same? i z)
+      either (cases_eq i z)
       (λ (e : i ≡ z). rw (e, next, none) (ne_eqb (m + 1) (k + 1) (λ d. omega arith) ∙ sym (ne_eqb 0 (k + 1) (λ d. omega arith))))
       (λ (e : i ≢ z). rw (else i q e))
 
@@ -144,7 +145,7 @@ module _ (f g : ℕ → ℕ) (n m z : ℕ) (s : Numbers f n m) (p : z < n) (none
 
   more_once : (k : ℕ) → k < m + 1 → count (λ (i : ℕ). eqb (g i) (k + 1)) n ≡ 1
   more_once k l =
-      either (same? k m)
+      either (cases_eq k m)
       (λ (e : k ≡ m). rw e (count_one _ z n p (eq-eqb (g z) (m + 1) next) newest))
       (λ (e : k ≢ m). count_same _ _ n (older k (omega arith)) ∙ s.once k (omega arith))
 

@@ -11,6 +11,8 @@ use lib.Dec.{eqb, ltb, leb}
 use lib.ListN.{length, get_or, set}
 use lib.Seq.{get_or-set_same, get_or-set_other}
 use borrow.Author.Tests.{eq-eqb, eqb-true, ne_eqb, leb-true, le-leb, ltb-true, lt-ltb}
+use Rattle.std.proofs.lemmas.Bool.{and_from, and_parts, cases_eq, cases_lt}
+use Rattle.std.proofs.lemmas.List.{get_or_past}
 use Rattle.search.specs.Search.{every, count}
 use Rattle.fips180.specs.Digest.{digest_bytes}
 use Rattle.world.specs.declared.World.{World}
@@ -29,28 +31,27 @@ use Rattle.world.specs.Executions.{execution_at}
 use Rattle.world.specs.Outgoing.{packet_at}
 use Rattle.world.specs.Hold.{entry_at}
 use Rattle.world.specs.Boxes.{no_table, no_packets, no_entries, no_items, executions_of, outgoing_of, hold_of, delivered_of, item_at}
-use Rattle.search.proofs.Lists.{get_d_out}
 use Rattle.protocol.specs.Zeros.{zero_bytes}
 use Rattle.protocol.specs.Names.{names, table_of, own_execution}
 use Rattle.protocol.specs.Sound.{slot_sound, new_digest, requests_sound, masks_sound, order_sound, execution_sound, place_sound, new_id, executions_sound, number_at, numbers_sound, packet_sound, outgoing_sound, stage_sound, entry_sound, hold_sound, item_sound, delivered_sound, server_sound, servers_sound, sound}
 use Rattle.search.specs.Tests.{implies}
 use Rattle.world.proofs.Seats.{seat_own}
 use Rattle.kept.specs.Kept.{Shaped}
-use Rattle.search.proofs.Booleans.{either, test, same?, less?, and2, and3, and4, and5, and_both, implies_in, implies_out}
+use Rattle.search.proofs.Booleans.{either, test, and3, and4, and5, implies_in, implies_out}
 use Rattle.search.proofs.Every.{every_at, every_all}
 use Rattle.kept.proofs.Counts.{Numbers}
 
 -- a list with one element changed: the new one at its place, the old ones elsewhere
 pub set_cases : {A : Type 0} (P : A → Type 0) (l : List A) (i j : ℕ) (a d : A) → i < length l → (j ≡ i → P a) → (j ≢ i → P (get_or l j d)) → P (get_or (set l i a) j d)
 set_cases P l i j a d h new old =
-    either (same? j i)
+    either (cases_eq j i)
     (λ (e : j ≡ i). rw (e, get_or-set_same l i a d h) (new e))
     (λ (e : j ≢ i). rw (get_or-set_other l i j a d e) (old e))
 
 -- a place at which something stands that does not stand past the end lies in the list
 pub inside : {A : Type 0} (P : A → Type 0) (l : List A) (k n : ℕ) (d : A) → length l ≡ n → P (get_or l k d) → (P d → ⊥) → k < n
 inside P l k n d e p never =
-    either (less? k n) (λ (h : k < n). h) (λ (h : n ≤ k). absurd (never (rw (get_d_out l k d (omega arith)) at p)))
+    either (cases_lt k n) (λ (h : k < n). h) (λ (h : n ≤ k). absurd (never (rw (get_or_past l k d (omega arith)) at p)))
 
 -- requests
 pub record Stored (r : Roster) (q : Requests) : Type 0 where
@@ -67,7 +68,7 @@ stored_out r q l e =
 
 stored_in : {r : Roster} {q : Requests} → Stored r q → requests_sound r q ≡ true
 unfolding requests_sound
-stored_in s = and_both (and_both (le-leb _ _ s.most) (every_all _ _ s.slots)) (every_all _ _ s.new)
+stored_in s = and_from _ _ (and_from _ _ (le-leb _ _ s.most) (every_all _ _ s.slots)) (every_all _ _ s.new)
 
 -- the executions of one sender
 pub record Table (r : Roster) (m x : ℕ) (t : Executions) : Type 0 where
@@ -89,7 +90,7 @@ table_out r m x t l e =
 table_in : {r : Roster} {m x : ℕ} {t : Executions} → Table r m x t → executions_sound r m x t ≡ true
 unfolding executions_sound
 table_in s =
-    and_both (and_both (and_both (le-leb _ _ s.most) s.theirs) (every_all _ _ s.places)) (every_all _ _ s.new)
+    and_from _ _ (and_from _ _ (and_from _ _ (le-leb _ _ s.most) s.theirs) (every_all _ _ s.places)) (every_all _ _ s.new)
 
 -- an execution in use
 pub record Made (r : Roster) (m x k : ℕ) (e : Execution) : Type 0 where
@@ -106,7 +107,7 @@ place_out r m x c k e h p =
 pub place_in : (r : Roster) (m x c k : ℕ) (e : Execution) → k < c → Made r m x k e → place_sound r m x c k e ≡ true
 unfolding place_sound execution_sound
 place_in r m x c k e h p =
-    rw (lt-ltb k c h) (and_both (and_both p.masks p.order) (implies_in (correct r x) (eqb e.id (k + 1)) (λ y. eq-eqb e.id (k + 1) (p.gapless y))))
+    rw (lt-ltb k c h) (and_from _ _ (and_from _ _ p.masks p.order) (implies_in (correct r x) (eqb e.id (k + 1)) (λ y. eq-eqb e.id (k + 1) (p.gapless y))))
 
 -- a number is one of 1 to M, or none
 pub order_low : (r : Roster) (m : ℕ) (e : Execution) → order_sound r m e ≡ true → e.number ≤ m
@@ -114,7 +115,7 @@ unfolding order_sound
 order_low r m e p =
     test (eqb e.number 0)
     (λ z. omega (arith, eqb-true e.number 0 z))
-    (λ z. leb-true e.number m (and2 (eqb (ones e.mask) (threshold r)) (leb e.number m) (rw z at p)).1)
+    (λ z. leb-true e.number m (and_parts (eqb (ones e.mask) (threshold r)) (leb e.number m) (rw z at p)).1)
 
 -- and a place that is not used has none
 pub place_unused : (r : Roster) (m x c k : ℕ) (e : Execution) → ltb k c ≡ false → place_sound r m x c k e ≡ true → e.number ≡ 0
@@ -134,7 +135,7 @@ pub numbers_out : (r : Roster) (m : ℕ) (ts : List Executions) → numbers_soun
     → Numbers (number_at ts) (servers * executions_most) m
 unfolding numbers_sound
 numbers_out r m ts e h =
-    let a = and2 (leb m delivered_most) (every (λ (k : ℕ). eqb (count (λ (i : ℕ). eqb (number_at ts i) (k + 1)) (servers * executions_most)) 1) m) e in
+    let a = and_parts (leb m delivered_most) (every (λ (k : ℕ). eqb (count (λ (i : ℕ). eqb (number_at ts i) (k + 1)) (servers * executions_most)) 1) m) e in
     record {
       most = leb-true m delivered_most a.0;
       low = λ i p.
@@ -145,7 +146,7 @@ numbers_out r m ts e h =
 
 numbers_in : (m : ℕ) (ts : List Executions) → Numbers (number_at ts) (servers * executions_most) m → numbers_sound ts m ≡ true
 unfolding numbers_sound
-numbers_in m ts n = and_both (le-leb _ _ n.most) (every_all _ _ (λ k p. eq-eqb _ _ (n.once k p)))
+numbers_in m ts n = and_from _ _ (le-leb _ _ n.most) (every_all _ _ (λ k p. eq-eqb _ _ (n.once k p)))
 
 -- packets
 pub record Packets (r : Roster) (stored x : ℕ) (o : Outgoing) : Type 0 where
@@ -190,7 +191,7 @@ entry_out r stored m x t e d p =
     and5 (leb e.stage 3) (member r x) (names r stored e.sending) (implies (ltb 1 e.stage) (is_some (own_execution t e.sending))) (stage_sound m e)
     (rw (ne_eqb e.stage 0 d) at p)
     in
-    let b = and2 (member r e.sending.sender) (ltb e.sending.slot stored) a.2 in
+    let b = and_parts (member r e.sending.sender) (ltb e.sending.slot stored) a.2 in
     record {
       stage = leb-true e.stage 3 a.0;
       holder = a.1;
@@ -204,9 +205,9 @@ pub entry_in : (r : Roster) (stored m x : ℕ) (t : Executions) (e : Entry) → 
 unfolding entry_sound
 entry_in r stored m x t e d p =
     rw (ne_eqb e.stage 0 d)
-    (and_both
-    (and_both
-    (and_both (and_both (le-leb e.stage 3 p.stage) p.holder) (and_both p.sender p.slot))
+    (and_from _ _
+    (and_from _ _
+    (and_from _ _ (and_from _ _ (le-leb e.stage 3 p.stage) p.holder) (and_from _ _ p.sender p.slot))
     (implies_in (ltb 1 e.stage) (is_some (own_execution t e.sending)) (λ h. p.named (ltb-true 1 e.stage h))))
     p.number)
 
@@ -228,7 +229,7 @@ items_out r stored m x d l e =
 
 items_in : {r : Roster} {stored m x : ℕ} {d : Delivered} → Items r stored m x d → delivered_sound r stored m x d ≡ true
 unfolding delivered_sound
-items_in s = and_both (and_both (le-leb _ _ s.most) s.theirs) (every_all _ _ s.places)
+items_in s = and_from _ _ (and_from _ _ (le-leb _ _ s.most) s.theirs) (every_all _ _ s.places)
 
 -- the whole world
 pub record Facts (r : Roster) (m : ℕ) (q : Requests) (ts : List Executions) (os : List Outgoing) (hs : List Hold) (ds : List Delivered) : Type 0 where
@@ -297,17 +298,17 @@ module _ (w : World) (f : FactsOf w) where
   unfolding server_sound
   server_in s h =
       rw (seat_own s h)
-      (and_both
-      (and_both
-      (and_both (table_in (f.tables s h)) (packets_in (f.packets s h)))
+      (and_from _ _
+      (and_from _ _
+      (and_from _ _ (table_in (f.tables s h)) (packets_in (f.packets s h)))
       (entries_in (f.entries s h)))
       (items_in (f.items s h)))
 
   pub world_in : sound w ≡ true
   unfolding sound servers_sound
   world_in =
-      and_both
-      (and_both (and_both f.roster (stored_in f.requests)) (numbers_in w.numbered w.executions f.numbers))
+      and_from _ _
+      (and_from _ _ (and_from _ _ f.roster (stored_in f.requests)) (numbers_in w.numbered w.executions f.numbers))
       (every_all _ _ server_in)
 
   pub world_shaped : Shaped w

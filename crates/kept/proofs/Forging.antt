@@ -5,6 +5,7 @@ use mathlib.Core.Bool.{true, ◌&&◌}
 use mathlib.Core.List.{List}
 use Prim.Native.Nat.{ℕ}
 use lib.Dec.{ltb}
+use Rattle.std.proofs.lemmas.Bool.{and_from}
 use Rattle.world.specs.declared.roster.Roster.{Roster}
 use Rattle.world.specs.declared.execution.Executions.{Executions}
 use Rattle.world.specs.declared.sending.Sending.{Sending}
@@ -13,7 +14,7 @@ use Rattle.world.specs.Outgoing.{free_outgoing, packet_for}
 use Rattle.protocol.specs.declared.boxes.Boxes.{Boxes}
 use Rattle.protocol.specs.declared.boxes.Ruling.{Ruling}
 use Rattle.protocol.specs.Rules.{forge_packet_of}
-use Rattle.search.proofs.Booleans.{musts, and3, and_both}
+use Rattle.search.proofs.Booleans.{musts, and3}
 use Rattle.kept.proofs.Places.{packet_packet_added, sending_sound}
 use Rattle.kept.proofs.Putting.{Fits, Keeps, with_outgoing_lem}
 
@@ -30,4 +31,4 @@ module _ {r : Roster} {stored m : ℕ} {ts : List Executions} {s h x : ℕ} {b :
       let sending : Sending = record { id = id; sender = sender; slot = slot } in
       with_outgoing_lem f _
       (packet_packet_added f.packets (packet_for to sending)
-      (sending_sound r stored s sending to (rw (at k.0) k.0) (and_both k.2 (rw f.same at there)) k.1))
+      (sending_sound r stored s sending to (rw (at k.0) k.0) (and_from _ _ k.2 (rw f.same at there)) k.1))

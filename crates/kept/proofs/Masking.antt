@@ -8,6 +8,7 @@ use native.Mathlib.Omega.{arith}
 use lib.Count.{ones}
 use lib.Dec.{eqb}
 use borrow.Author.Tests.{ne_eqb, eqb-true, eqb-false, le-leb}
+use Rattle.std.proofs.lemmas.Bool.{and_from, and_parts, cond_both, not-false, not-true, not_from_false}
 use Rattle.world.specs.declared.roster.Roster.{Roster}
 use Rattle.world.specs.declared.execution.Execution.{Execution}
 use Rattle.world.specs.declared.execution.Ordered.{Ordered}
@@ -17,18 +18,18 @@ use Rattle.world.specs.Roster.{member, correct, threshold, strays}
 use Rattle.world.specs.Executions.{next_number, opened, called, with_number, ordered}
 use Rattle.protocol.specs.Sound.{lies_within, masks_sound, order_sound}
 use Rattle.search.specs.Tests.{implies}
-use Rattle.search.proofs.Booleans.{apart, either, test, chosen, and2, and5, and_both, implies_in, implies_out, not_in, not_out, not_no}
+use Rattle.search.proofs.Booleans.{apart, either, test, and5, implies_in, implies_out}
 use Rattle.search.proofs.Every.{any_none, any_no, every_at, every_all}
 use Rattle.world.proofs.Bits.{join_same, join_back, join_keeps, nobody_has}
 use Rattle.kept.proofs.Facts.{Made}
 
 -- no bit at n or above
 members_out : (r : Roster) (mask : ℕ) → not (strays r mask) ≡ true → (i : ℕ) → i < servers → has mask i ≡ true → member r i ≡ true
-members_out r mask e i h y = not_no (member r i) (rw y at (any_none (λ (i : ℕ). has mask i && not (member r i)) servers i (not_out _ e) h))
+members_out r mask e i h y = not-false (member r i) (rw y at (any_none (λ (i : ℕ). has mask i && not (member r i)) servers i (not-true _ e) h))
 
 members_in : (r : Roster) (mask : ℕ) → ((i : ℕ) → i < servers → has mask i ≡ true → member r i ≡ true) → not (strays r mask) ≡ true
 members_in r mask f =
-    not_in (strays r mask)
+    not_from_false (strays r mask)
     (any_no (λ (i : ℕ). has mask i && not (member r i)) servers
     (λ i h. test (has mask i) (λ y. rw (y, f i h y)) (λ n. rw n)))
 
@@ -54,9 +55,9 @@ masks_out r x e p =
 masks_in : (r : Roster) (x : ℕ) (e : Execution) → Masked r x e.called e.mask → masks_sound r x e ≡ true
 unfolding masks_sound lies_within
 masks_in r x e f =
-    and_both
-    (and_both
-    (and_both (and_both (members_in r e.called f.callers) (members_in r e.mask f.proposers))
+    and_from _ _
+    (and_from _ _
+    (and_from _ _ (and_from _ _ (members_in r e.called f.callers) (members_in r e.mask f.proposers))
     (every_all (λ (i : ℕ). implies (has e.mask i) (has e.called i)) servers (λ i h. implies_in (has e.mask i) (has e.called i) (f.within i h))))
     f.caller)
     f.proposer
@@ -105,7 +106,7 @@ called_masks r x e s l mine p =
 -- the orderer keeps an execution's id
 pub ordered_id : (r : Roster) (e : Execution) (m : ℕ) → (ordered r e m).execution.id ≡ e.id
 unfolding ordered
-ordered_id r e m = chosen (λ (o : Ordered). o.execution.id ≡ e.id) (eqb e.number 0 && eqb (ones e.mask) (threshold r)) _ _ (λ _. refl) (λ _. refl)
+ordered_id r e m = cond_both (eqb e.number 0 && eqb (ones e.mask) (threshold r)) _ _ (λ (o : Ordered). o.execution.id ≡ e.id) (λ _. refl) (λ _. refl)
 
 -- what it makes of an execution
 pub record Orders (r : Roster) (m x k : ℕ) (e : Execution) (o : Ordered) : Type 0 where
@@ -121,12 +122,12 @@ module _ (r : Roster) (m x k : ℕ) (e : Execution) (small : m ≤ servers * exe
   given : (eqb e.number 0 && eqb (ones e.mask) (threshold r)) ≡ true → Orders r m x k e (record { execution = with_number e (next_number m); numbered = next_number m })
   unfolding masks_sound order_sound
   given p =
-      let a = and2 (eqb e.number 0) (eqb (ones e.mask) (threshold r)) p in
+      let a = and_parts (eqb e.number 0) (eqb (ones e.mask) (threshold r)) p in
       record {
         id = refl;
         made = record {
           masks = masks;
-          order = rw (ne_eqb (next_number m) 0 (λ z. omega arith)) (and_both a.1 (le-leb (next_number m) (next_number m) (omega arith)));
+          order = rw (ne_eqb (next_number m) 0 (λ z. omega arith)) (and_from _ _ a.1 (le-leb (next_number m) (next_number m) (omega arith)));
           gapless = gapless;
         };
         change = inr (next_number_lem, eqb-true e.number 0 a.0, next_number_lem);
@@ -147,4 +148,4 @@ module _ (r : Roster) (m x k : ℕ) (e : Execution) (small : m ≤ servers * exe
 
   pub orders : Orders r m x k e (ordered r e m)
   unfolding ordered
-  orders = chosen (λ o. Orders r m x k e o) (eqb e.number 0 && eqb (ones e.mask) (threshold r)) _ _ given left
+  orders = cond_both (eqb e.number 0 && eqb (ones e.mask) (threshold r)) _ _ (λ o. Orders r m x k e o) given left

@@ -8,6 +8,7 @@ use native.Mathlib.Omega.{arith}
 use lib.Count.{ones}
 use lib.Dec.{eqb, ltb, leb}
 use borrow.Author.Tests.{eqb-false, leb-true, le-leb, ltb-true, lt-ltb}
+use Rattle.std.proofs.lemmas.Bool.{and_from, and_parts}
 use Rattle.world.specs.declared.roster.Roster.{Roster}
 use Rattle.world.specs.declared.execution.Execution.{Execution}
 use Rattle.world.specs.declared.execution.Executions.{Executions}
@@ -23,7 +24,7 @@ use Rattle.world.specs.Executions.{execution_of}
 use Rattle.world.specs.Hold.{entry_at}
 use Rattle.protocol.specs.Names.{names, table_of}
 use Rattle.protocol.specs.Sound.{order_sound, place_sound, packet_sound, stage_sound, entry_sound, item_sound}
-use Rattle.search.proofs.Booleans.{test, and2, and3, and_both}
+use Rattle.search.proofs.Booleans.{test, and3}
 use Rattle.kept.proofs.Facts.{Table, Made, Packets, Entries, Items, place_in, place_out, entry_in, entry_out}
 
 slot_more : (slot stored more : ℕ) → stored ≤ more → ltb slot stored ≡ true → ltb slot more ≡ true
@@ -31,8 +32,8 @@ slot_more slot stored more h e = lt-ltb slot more (omega (arith, ltb-true slot s
 
 names_more : (r : Roster) (stored more : ℕ) (s : Sending) → stored ≤ more → names r stored s ≡ true → names r more s ≡ true
 names_more r stored more s h e =
-    let a = and2 (member r s.sender) (ltb s.slot stored) e in
-    and_both a.0 (slot_more s.slot stored more h a.1)
+    let a = and_parts (member r s.sender) (ltb s.slot stored) e in
+    and_from _ _ a.0 (slot_more s.slot stored more h a.1)
 
 pub order_more : (r : Roster) (m n : ℕ) (x : Execution) → m ≤ n → order_sound r m x ≡ true → order_sound r n x ≡ true
 unfolding order_sound
@@ -40,9 +41,9 @@ order_more r m n x h e =
     test (eqb x.number 0)
     (λ z. rw z (rw z at e))
     (λ z.
-    let a = and2 (eqb (ones x.mask) (threshold r)) (leb x.number m) (rw z at e) in
+    let a = and_parts (eqb (ones x.mask) (threshold r)) (leb x.number m) (rw z at e) in
     let l = leb-true x.number m a.1 in
-    rw z (and_both a.0 (le-leb x.number n (omega arith))))
+    rw z (and_from _ _ a.0 (le-leb x.number n (omega arith))))
 
 made_more : {r : Roster} {m n s k : ℕ} {x : Execution} → m ≤ n → Made r m s k x → Made r n s k x
 made_more {r} {m} {n} {x = x} h f = record { masks = f.masks; order = order_more r m n x h f.order; gapless = f.gapless }
@@ -71,7 +72,7 @@ packet_more r stored more x p h e =
     test p.there
     (λ z.
     let a = and3 (member r x) (member r p.to) (names r stored p.sending) (rw z at e) in
-    rw z (and_both (and_both a.0 a.1) (names_more r stored more p.sending h a.2)))
+    rw z (and_from _ _ (and_from _ _ a.0 a.1) (names_more r stored more p.sending h a.2)))
     (λ z. rw z (rw z at e))
 
 pub packets_more : {r : Roster} {stored more x : ℕ} {o : Outgoing} → stored ≤ more → Packets r stored x o → Packets r more x o
@@ -90,9 +91,9 @@ unfolding stage_sound
 stage_more m n e h p =
     test (eqb e.stage 3)
     (λ z.
-    let a = and2 (leb 1 e.number) (leb e.number m) (rw z at p) in
+    let a = and_parts (leb 1 e.number) (leb e.number m) (rw z at p) in
     let l = leb-true e.number m a.1 in
-    rw z (and_both a.0 (le-leb e.number n (omega arith))))
+    rw z (and_from _ _ a.0 (le-leb e.number n (omega arith))))
     (λ z. rw z (rw z at p))
 
 entry_more : (r : Roster) (stored more m n x : ℕ) (t u : Executions) (e : Entry) → stored ≤ more → m ≤ n → Grows t u

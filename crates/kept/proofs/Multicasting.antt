@@ -8,6 +8,7 @@ use native.Mathlib.Omega.{arith}
 use lib.Dec.{ltb}
 use lib.ListN.{length}
 use borrow.Author.Tests.{ltb-true}
+use Rattle.std.proofs.lemmas.Bool.{and_from}
 use Rattle.world.specs.declared.roster.Roster.{Roster}
 use Rattle.world.specs.declared.execution.Executions.{Executions}
 use Rattle.world.specs.Sizes.{servers, executions_most}
@@ -18,7 +19,7 @@ use Rattle.world.specs.Hold.{entry_of}
 use Rattle.protocol.specs.declared.boxes.Boxes.{Boxes}
 use Rattle.protocol.specs.declared.boxes.Ruling.{Ruling}
 use Rattle.protocol.specs.Rules.{made, own_sending, multicast_done, roomy, multicast_of}
-use Rattle.search.proofs.Booleans.{musts, and_both}
+use Rattle.search.proofs.Booleans.{musts}
 use Rattle.kept.proofs.Facts.{Table, place_out}
 use Rattle.kept.proofs.Places.{second_entry, entry_kept, packets_sent}
 use Rattle.kept.proofs.Ordering.{made_fits, made_found}
@@ -41,7 +42,7 @@ module _ {r : Roster} {stored m : ℕ} {ts : List Executions} (all : length ts �
       let o = own_sending s slot b in
       let g = made_fits f all seated mine o.id b.request.digest room (new_id_lem f.table good) (λ _. refl) in
       let found = made_found f all seated mine o.id b.request.digest room in
-      let names = and_both mine there in
+      let names = and_from _ _ mine there in
       let h =
       with_hold_lem g _
       (entry_kept g.entries (entry_of 2 o 0)
@@ -63,4 +64,4 @@ module _ {r : Roster} {stored m : ℕ} {ts : List Executions} (all : length ts �
       musts P (roomy r server b) _ _ f λ _.
       let q = at mine in
       rw q
-      (multicast_fits slot (rw q at seated) (rw q at f) mine (and_both mine good) (rw f.same at there) (ltb-true b.executions.count executions_most room))
+      (multicast_fits slot (rw q at seated) (rw q at f) mine (and_from _ _ mine good) (rw f.same at there) (ltb-true b.executions.count executions_most room))

@@ -10,6 +10,7 @@ use lib.Dec.{eqb, ltb}
 use lib.ListN.{length, get_or, set, length-set}
 use lib.Seq.{get_or-set_same, get_or-set_other}
 use borrow.Author.Tests.{eq-eqb, ne_eqb, eqb-true, eqb-false, ltb-true, lt-ltb, le-ltb}
+use Rattle.std.proofs.lemmas.Bool.{and_from, and_parts, cases_eq, cases_lt, not-true, not_from_false, or_left}
 use Rattle.search.proofs.Laws.{found_in}
 use Rattle.world.specs.declared.roster.Roster.{Roster}
 use Rattle.world.specs.declared.execution.Execution.{Execution}
@@ -23,7 +24,7 @@ use Rattle.protocol.specs.Sound.{order_sound, place_sound, new_id, number_at}
 use Rattle.world.proofs.Seats.{seat_own}
 use Rattle.protocol.specs.declared.boxes.Boxes.{Boxes}
 use Rattle.protocol.specs.Rules.{with_executions, made, recorded}
-use Rattle.search.proofs.Booleans.{either, same?, less?, sides_more, and2, or_left, not_in, not_out, and_both}
+use Rattle.search.proofs.Booleans.{either, sides_more}
 use Rattle.search.proofs.Every.{found_at, found_where, any_in, any_none, every_at, every_all}
 use Rattle.kept.proofs.Counts.{Numbers, numbers_same, numbers_more}
 use Rattle.kept.proofs.Facts.{set_cases, Table, Made, place_in, place_out, place_unused}
@@ -37,14 +38,14 @@ grows_by t u h id p =
     let w = found_where (execution_of t id) p in
     let k = w.0 in
     let l = found_in _ executions_most k (execution_of t id) refl w.1 in
-    let a = and2 (ltb k t.count) (eqb (execution_at t k).id id) (found_at _ executions_most k w.1) in
+    let a = and_parts (ltb k t.count) (eqb (execution_at t k).id id) (found_at _ executions_most k w.1) in
     let g = h k (ltb-true k t.count a.0) l in
     let e = eqb-true (execution_at t k).id id a.1 in
     any_in (λ (k : ℕ). ltb k u.count && eqb (execution_at u k).id id) executions_most k l (rw (lt-ltb k u.count g.0) (eq-eqb (execution_at u k).id id (g.1 ∙ e)))
 
 -- what is found is in use, and where nothing is found no id is equal
 pub found_made : (t : Executions) (id k : ℕ) → execution_of t id ≡ Some k → k < t.count
-found_made t id k e = ltb-true k t.count (and2 (ltb k t.count) (eqb (execution_at t k).id id) (found_at _ executions_most k e)).0
+found_made t id k e = ltb-true k t.count (and_parts (ltb k t.count) (eqb (execution_at t k).id id) (found_at _ executions_most k e)).0
 
 pub not_found : (t : Executions) (id j : ℕ) → is_some (execution_of t id) ≡ false → t.count ≤ executions_most → j < t.count → (execution_at t j).id ≢ id
 not_found t id j e m l =
@@ -69,7 +70,7 @@ module _ (ts : List Executions) (x : ℕ) (t u : Executions) (all : length ts �
   both_numbers : (i : ℕ) → i < servers * executions_most → (i / executions_most ≡ x → (execution_at u (i % executions_most)).number ≡ (execution_at t (i % executions_most)).number)
       → number_at (set ts x u) i ≡ number_at (set ts x t) i
   both_numbers i h f =
-      either (same? (i / executions_most) x)
+      either (cases_eq (i / executions_most) x)
       (λ (e : i / executions_most ≡ x). own_number ts x i u all h e ∙ f e ∙ sym (own_number ts x i t all h e))
       (λ (e : i / executions_most ≢ x). other_number ts x i u h e ∙ sym (other_number ts x i t h e))
 
@@ -79,11 +80,11 @@ module _ {r : Roster} {m x : ℕ} {t : Executions} (f : Table r m x t) where
   unfolding new_id
   older j i a b =
       eqb-false (execution_at t j).id (execution_at t i).id
-      (not_out _ (every_at (λ (j : ℕ). not (eqb (execution_at t j).id (execution_at t i).id)) i (f.new i b) j a))
+      (not-true _ (every_at (λ (j : ℕ). not (eqb (execution_at t j).id (execution_at t i).id)) i (f.new i b) j a))
 
   pub ids_differ : (j i : ℕ) → j < t.count → i < t.count → j ≢ i → (execution_at t j).id ≢ (execution_at t i).id
   ids_differ j i a b d =
-      either (less? j i) (λ (l : j < i). older j i l b) (λ (l : i ≤ j). λ z. older i j (omega arith) a (sym z))
+      either (cases_lt j i) (λ (l : j < i). older j i l b) (λ (l : i ≤ j). λ z. older i j (omega arith) a (sym z))
 
 -- a table with one execution changed or made
 abbrev pub changed : Executions → ℕ → ℕ → Execution → Executions
@@ -102,7 +103,7 @@ module _ (t : Executions) (k c : ℕ) (e : Execution) (size : length t.table ≡
     same_numbers q =
         numbers_same (number_at (set ts x t)) (number_at (set ts x (changed t k c e))) (servers * executions_most) m
         (λ i h. both_numbers ts x t (changed t k c e) all i h
-        (λ _. either (same? (i % executions_most) k)
+        (λ _. either (cases_eq (i % executions_most) k)
         (λ (z : i % executions_most ≡ k). rw (z, changed_here) q)
         (λ (z : i % executions_most ≢ k). ap (λ (v : Execution). v.number) (changed_else (i % executions_most) z))))
         n
@@ -146,14 +147,14 @@ module _ (t : Executions) (k c : ℕ) (e : Execution) (size : length t.table ≡
               (λ (p : j ≡ k). rw p (place_in r n x c k e counted good))
               (λ (p : j ≢ k). place_more r m n x t.count c j _ more (sides j p) (f.places j h));
           new = λ i b. every_all (λ (j : ℕ). not (eqb (execution_at (changed t k c e) j).id (execution_at (changed t k c e) i).id)) i
-              (λ j a. not_in _ (ne_eqb _ _ (apart_ids j i a b)));
+              (λ j a. not_from_false _ (ne_eqb _ _ (apart_ids j i a b)));
         }
 
     pub table_grows : (k < t.count → e.id ≡ (execution_at t k).id) → Grows t (changed t k c e)
     table_grows keeps =
         grows_by t (changed t k c e)
         (λ j h _. (
-          either (same? j k) (λ (p : j ≡ k). rw p counted) (λ (p : j ≢ k). ltb-true j c (sym (sides j p) ∙ lt-ltb j t.count h)),
+          either (cases_eq j k) (λ (p : j ≡ k). rw p counted) (λ (p : j ≢ k). ltb-true j c (sym (sides j p) ∙ lt-ltb j t.count h)),
           set_cases (λ y. y.id ≡ (execution_at t j).id) t.table k j e no_execution (omega arith)
               (λ (p : j ≡ k). rw p (keeps (rw p at h)))
               (λ _. refl),
@@ -229,7 +230,7 @@ module _ {r : Roster} {stored m : ℕ} {ts : List Executions} {server holder x :
       ap (λ (v : Execution). v.id) (changed_here b.executions c (c + 1) o.execution f.table.size room) ∙ ordered_id r (opened x id digest) b.numbered
       in
       any_in (λ (k : ℕ). ltb k t.count && eqb (execution_at t k).id id) executions_most c room
-      (and_both (lt-ltb c (c + 1) (omega arith)) (eq-eqb (execution_at t c).id id e))
+      (and_from _ _ (lt-ltb c (c + 1) (omega arith)) (eq-eqb (execution_at t c).id id e))
 
   -- a call recorded
   pub recorded_fits : (s k : ℕ) → k < b.executions.count → s < servers → member r s ≡ true → Fits r stored m ts server holder x (recorded r s k b)

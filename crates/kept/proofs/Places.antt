@@ -9,6 +9,7 @@ use native.Mathlib.Omega.{arith}
 use lib.Dec.{eqb, ltb}
 use lib.ListN.{length-set}
 use borrow.Author.Tests.{le-leb, lt-ltb}
+use Rattle.std.proofs.lemmas.Bool.{and_from, and_parts, cond_both, or_left}
 use Rattle.search.proofs.Laws.{found_in}
 use Rattle.world.specs.declared.roster.Roster.{Roster}
 use Rattle.world.specs.declared.execution.Executions.{Executions}
@@ -27,13 +28,13 @@ use Rattle.world.specs.Sending.{no_sending}
 use Rattle.world.specs.Delivered.{next_of, appended}
 use Rattle.protocol.specs.Names.{names, table_of, own_execution}
 use Rattle.protocol.specs.Sound.{packet_sound, stage_sound, entry_sound, item_sound}
-use Rattle.search.proofs.Booleans.{sides_more, chosen, and2, and3, and_both, or_left}
+use Rattle.search.proofs.Booleans.{sides_more, and3}
 use Rattle.kept.proofs.Facts.{set_cases, Packets, Entries, Items, entry_in}
 
 -- an entry at stage one, and one at stage two, whose execution is in the table
 module _ (r : Roster) (stored m x : ℕ) (t : Executions) (mine : member r x ≡ true) (s : Sending) (good : names r stored s ≡ true) where
   named_by : (member r s.sender ≡ true) × (ltb s.slot stored ≡ true)
-  named_by = and2 (member r s.sender) (ltb s.slot stored) good
+  named_by = and_parts (member r s.sender) (ltb s.slot stored) good
 
   pub first_entry : entry_sound r stored m x t (entry_of 1 s 0) ≡ true
   unfolding stage_sound
@@ -58,7 +59,7 @@ module _ (r : Roster) (stored m x : ℕ) (t : Executions) (mine : member r x ≡
         sender = named_by.0;
         slot = named_by.1;
         named = λ h. found;
-        number = and_both (le-leb 1 number (omega arith)) (le-leb number m low);
+        number = and_from _ _ (le-leb 1 number (omega arith)) (le-leb number m low);
       })
 
 -- a hold
@@ -98,7 +99,7 @@ packet_out r stored x p there e = and3 (member r x) (member r p.to) (names r sto
 pub sending_sound : (r : Roster) (stored x : ℕ) (s : Sending) (to : ℕ) → member r x ≡ true → names r stored s ≡ true → member r to ≡ true
     → packet_sound r stored x (packet_for to s) ≡ true
 unfolding packet_sound
-sending_sound r stored x s to mine good there = and_both (and_both mine there) good
+sending_sound r stored x s to mine good there = and_from _ _ (and_from _ _ mine there) good
 
 -- the outgoing places
 module _ {r : Roster} {stored x : ℕ} where
@@ -129,7 +130,7 @@ module _ {r : Roster} {stored x : ℕ} where
     below mask server f zero = f
     below mask server {o} f (suc n) =
         let g = below mask server f n in
-        chosen (λ v. Packets r stored x v) (recipient r mask server n) (packet_added (sent_below r mask server s o n) (packet_for n s)) (sent_below r mask server s o n)
+        cond_both (recipient r mask server n) (packet_added (sent_below r mask server s o n) (packet_for n s)) (sent_below r mask server s o n) (λ v. Packets r stored x v)
         (λ e. packet_packet_added g (packet_for n s) (sending_sound r stored x s n mine good (and3 (member r n) (not (has mask n)) (not (eqb n server)) e).0))
         (λ _. g)
 

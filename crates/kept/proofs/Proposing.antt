@@ -10,6 +10,7 @@ use lib.Dec.{eqb, leb}
 use lib.ListN.{length, get_or, set}
 use lib.Seq.{get_or-set_same}
 use borrow.Author.Tests.{ltb-true, lt-ltb, eqb-true, eqb-false}
+use Rattle.std.proofs.lemmas.Bool.{and_from, not-true}
 use Rattle.world.specs.declared.roster.Roster.{Roster}
 use Rattle.world.specs.declared.execution.Executions.{Executions}
 use Rattle.world.specs.declared.sending.Sending.{Sending}
@@ -27,7 +28,7 @@ use Rattle.world.proofs.Seats.{seat_own}
 use Rattle.protocol.specs.declared.boxes.Boxes.{Boxes}
 use Rattle.protocol.specs.declared.boxes.Ruling.{Ruling}
 use Rattle.protocol.specs.Rules.{raised, dropped_at, propose_to, propose_found, propose_of, settle_to, settle_found, settle_of}
-use Rattle.search.proofs.Booleans.{musts, and_both, not_out}
+use Rattle.search.proofs.Booleans.{musts}
 use Rattle.kept.proofs.Facts.{inside, Held, entry_out, place_out, order_low}
 use Rattle.kept.proofs.Places.{second_entry, third_entry, entry_put_lem, entry_freed_lem, packets_sent}
 use Rattle.kept.proofs.Ordering.{found_made, recorded_fits}
@@ -70,7 +71,7 @@ module _ {r : Roster} (few : r.n ≤ servers) {stored m : ℕ} {ts : List Execut
   second_fits u found =
       with_hold_lem f _
       (entry_put_lem f.entries place _ u.within
-      (second_entry r stored b.numbered s _ u.held.holder e.sending (and_both u.held.sender u.held.slot)
+      (second_entry r stored b.numbered s _ u.held.holder e.sending (and_from _ _ u.held.sender u.held.slot)
       (own_found ts x b.executions e.sending all u.whose u.below found)))
 
   -- propose
@@ -107,12 +108,12 @@ module _ {r : Roster} (few : r.n ≤ servers) {stored m : ℕ} {ts : List Execut
       let top = f.table.most in
       let g = place_out r b.numbered x b.executions.count k y c (f.table.places k (omega arith)) in
       let h = entry_at b.hold place in
-      let good = and_both u.held.sender u.held.slot in
+      let good = and_from _ _ u.held.sender u.held.slot in
       musts P (not (eqb y.number 0)) _ _ f λ some.
       let third : Fits r stored m ts s s x (raised place 3 y.number b) =
       with_hold_lem f _
       (entry_put_lem f.entries place _ u.within
-      (third_entry r stored b.numbered s _ u.held.holder h.sending good y.number (eqb-false y.number 0 (not_out _ some))
+      (third_entry r stored b.numbered s _ u.held.holder h.sending good y.number (eqb-false y.number 0 (not-true _ some))
       (order_low r b.numbered y g.order)
       (own_found ts x b.executions h.sending all u.whose u.below (rw (← q)))))
       in

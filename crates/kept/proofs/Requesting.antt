@@ -8,6 +8,7 @@ use native.Mathlib.Omega.{arith}
 use lib.Dec.{eqb, ltb}
 use lib.ListN.{get_or, set, length-set}
 use borrow.Author.Tests.{eq-eqb, ltb-true, lt-ltb}
+use Rattle.std.proofs.lemmas.Bool.{and_from, not-true, not_from_false}
 use Rattle.fips180.specs.Digest.{digest_bytes}
 use Rattle.world.specs.declared.World.{World}
 use Rattle.world.specs.declared.roster.Roster.{Roster}
@@ -20,7 +21,7 @@ use Rattle.protocol.specs.declared.boxes.Requested.{Requested}
 use Rattle.protocol.specs.Rules.{request_from, request_of}
 use Rattle.protocol.specs.Sound.{stored_sound, slot_sound, new_digest}
 use Rattle.world.specs.Boxes.{with_requests}
-use Rattle.search.proofs.Booleans.{sides_more, musts, and_both, not_in, not_out}
+use Rattle.search.proofs.Booleans.{sides_more, musts}
 use Rattle.search.proofs.Every.{any_none, every_at, every_all}
 use Rattle.kept.proofs.Facts.{set_cases, Stored, FactsOf}
 use Rattle.kept.proofs.More.{packets_more, entries_more, items_more}
@@ -63,7 +64,7 @@ module _ (r : Roster) (q : Requests) (f : Stored r q) where
         (λ (e : j ≡ q.count). absurd (omega arith))
         (λ _.
         set_cases (λ y. not (same_digest (request_at q j).digest y.digest) ≡ true) q.slots q.count k x no_request (omega (arith, f.size))
-        (λ (e : k ≡ q.count). not_in _ (unknown j (omega arith)))
+        (λ (e : k ≡ q.count). not_from_false _ (unknown j (omega arith)))
         (λ (e : k ≢ q.count). older j k l (omega arith))))
 
     stores_added : Stores r q added
@@ -76,7 +77,7 @@ module _ (r : Roster) (q : Requests) (f : Stored r q) where
 
   made_sound : (client serial seals : ℕ) (command : List ℕ) → strays r seals ≡ false → stored_sound r (request_from client serial seals command) ≡ true
   unfolding stored_sound request_from request_bytes
-  made_sound client serial seals command e = and_both (not_in (strays r seals) e) (same_digest_lem _)
+  made_sound client serial seals command e = and_from _ _ (not_from_false (strays r seals) e) (same_digest_lem _)
 
   stores_same : Stores r q q
   stores_same = record { stored = f; more = omega arith }
@@ -92,8 +93,8 @@ module _ (r : Roster) (q : Requests) (f : Stored r q) where
       musts P (not (strays r seals)) _ _ stores_same λ a.
       musts P (not (known_digest q (request_from client serial seals command).digest)) _ _ stores_same λ b.
       musts P (ltb q.count requests_most) _ _ stores_same λ c.
-      stores_added (request_from client serial seals command) (made_sound client serial seals command (not_out (strays r seals) a))
-      (not_out _ b) (ltb-true q.count requests_most c)
+      stores_added (request_from client serial seals command) (made_sound client serial seals command (not-true (strays r seals) a))
+      (not-true _ b) (ltb-true q.count requests_most c)
 
 pub request_facts : (w : World) → FactsOf w → (client serial seals : ℕ) (command : List ℕ)
     → FactsOf (with_requests w (request_of w.roster client serial seals command w.requests).requests)

@@ -6,6 +6,7 @@ use Prim.Native.Nat.{ℕ, ◌<◌}
 use native.Mathlib.Omega.{arith}
 use lib.ListN.{get_or, replicate, length-replicate, get_or-replicate}
 use borrow.Author.Tests.{le-ltb}
+use Rattle.std.proofs.lemmas.Bool.{or_right}
 use Rattle.search.specs.Search.{first_from}
 use Rattle.world.specs.declared.roster.Roster.{Roster}
 use Rattle.world.specs.declared.execution.Executions.{Executions}
@@ -21,7 +22,6 @@ use Rattle.world.specs.Fresh.{fresh_world}
 use Rattle.world.specs.Boxes.{no_table, no_packets, no_entries, no_items}
 use Rattle.protocol.specs.Zeros.{zero_bytes}
 use Rattle.protocol.specs.Sound.{slot_sound, place_sound, numbers_sound, packet_sound, entry_sound, item_sound}
-use Rattle.search.proofs.Booleans.{or_right}
 use Rattle.kept.proofs.Facts.{Stored, Table, Packets, Entries, Items, FactsOf, numbers_out}
 
 module _ (r : Roster) where

@@ -1,4 +1,5 @@
 -- Start gives sound worlds and steps keep them so; so runs and rows of steps end in one. Assumes nothing.
+use Rattle.std.specs.Prelude.{Ok, Err}
 use mathlib.Core.Path.{◌≡◌, refl, sym}
 use mathlib.Core.Bool.{true}
 use mathlib.Core.List.{List, [], ◌∷◌}
@@ -18,11 +19,9 @@ use Rattle.world.proofs.Seats.{seat_own, seated, few_servers}
 use Rattle.protocol.specs.declared.boxes.Boxes.{Boxes}
 use Rattle.format.specs.declared.reading.Read.{Read}
 use Rattle.format.specs.declared.reading.Read.TheVariants as read
-use Rattle.format.specs.declared.verdict.Verdict.{Verdict}
-use Rattle.format.specs.declared.verdict.Verdict.TheVariants.{Accepted, Refused}
 use Rattle.format.specs.Fields.{byte_at}
 use Rattle.format.specs.Records.{Asked, Request, Multicast, Arrive, Propose, Settle, Deliver, ForgePacket, ForgeSend, ForgeReceive, read_at, asked}
-use Rattle.format.specs.Judging.{judged}
+use Rattle.format.specs.Judging.{Verdict, judged}
 use Rattle.protocol.specs.declared.ending.Outcome.{Outcome}
 use Rattle.protocol.specs.Steps.{touch, boxes_of, put_back, step_of, world_after}
 use Rattle.protocol.specs.Runs.{start_of, public_step_by, public_step, start_world, with_room, ran_by, ran_of}
@@ -111,13 +110,13 @@ run_sound s k e =
     world_in (world_after (start_world s) (asked s)) (run_facts (start_world s) (asked s) (start_facts (byte_at s 1) (byte_at s 2) (accepted_means s k e).good))
 
 -- what holds of the world after every schedule that is not refused holds of what `run` hands back
-module _ (P : World → Type 0) (s : List ℕ) (room k : ℕ) (h : (j : ℕ) → judged s ≡ Accepted j → P (world_after (start_world s) (asked s))) where
-  ran_by_lem : (v : Verdict) → v ≡ judged s → (ran_by s (with_room room v)).verdict ≡ Accepted k → P (ran_by s (with_room room v)).world
-  ran_by_lem (Accepted j) e =
-      musts (λ (u : Verdict). (ran_by s u).verdict ≡ Accepted k → P (ran_by s u).world) (leb j room) _ _ (λ z. never z) (λ _ _. h j (sym e))
-  ran_by_lem (Refused why at) e = λ z. never z
+module _ (P : World → Type 0) (s : List ℕ) (room k : ℕ) (h : (j : ℕ) → judged s ≡ Ok j → P (world_after (start_world s) (asked s))) where
+  ran_by_lem : (v : Verdict) → v ≡ judged s → (ran_by s (with_room room v)).verdict ≡ Ok k → P (ran_by s (with_room room v)).world
+  ran_by_lem (Ok j) e =
+      musts (λ (u : Verdict). (ran_by s u).verdict ≡ Ok k → P (ran_by s u).world) (leb j room) _ _ (λ z. never z) (λ _ _. h j (sym e))
+  ran_by_lem (Err x) e = λ z. never z
 
-  pub ran_keeps : (ran_of s room).verdict ≡ Accepted k → P (ran_of s room).world
+  pub ran_keeps : (ran_of s room).verdict ≡ Ok k → P (ran_of s room).world
   unfolding ran_of
   ran_keeps e = ran_by_lem (judged s) refl e
 

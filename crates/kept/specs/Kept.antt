@@ -1,14 +1,13 @@
 -- Document 01, "Refusing a whole schedule", its last sentence: a start that is not refused is sound, and so is what
 -- any step makes of a sound world. Steps are `step_of`'s, with every field of a record unrestricted; `sound` is the
 -- test for 27.
-use Rattle.std.specs.Prelude.{ℕ, ◌<◌, ◌≡◌, true, List, [], ◌∷◌, length}
+use Rattle.std.specs.Prelude.{ℕ, ◌<◌, ◌≡◌, true, List, [], ◌∷◌, length, Ok}
 use Rattle.world.specs.declared.World.{World}
 use Rattle.world.specs.Sizes.{servers, requests_most, executions_most, outgoing_places, hold_places, delivered_most}
 use Rattle.world.specs.Roster.{good_roster}
 use Rattle.world.specs.Fresh.{fresh_world}
 use Rattle.world.specs.Boxes.{executions_of, outgoing_of, hold_of, delivered_of}
 use Rattle.protocol.specs.Sound.{sound}
-use Rattle.format.specs.declared.verdict.Verdict.TheVariants.{Accepted}
 use Rattle.format.specs.Records.{Asked, asked}
 use Rattle.format.specs.Judging.{judged}
 use Rattle.protocol.specs.Steps.{step_of, world_after}
@@ -42,11 +41,11 @@ StepShaped = (w : World) (a : Asked) → Shaped w → sound w ≡ true → Shape
 
 -- so the world at the end of every schedule that is not refused is sound
 abbrev pub RunSound : Type 0
-RunSound = (s : List ℕ) (k : ℕ) → judged s ≡ Accepted k → sound (world_after (start_world s) (asked s)) ≡ true
+RunSound = (s : List ℕ) (k : ℕ) → judged s ≡ Ok k → sound (world_after (start_world s) (asked s)) ≡ true
 
 -- as `run` hands it back
 abbrev pub RanSound : Type 0
-RanSound = (s : List ℕ) (room k : ℕ) → (ran_of s room).verdict ≡ Accepted k → sound (ran_of s room).world ≡ true
+RanSound = (s : List ℕ) (room k : ℕ) → (ran_of s room).verdict ≡ Ok k → sound (ran_of s room).world ≡ true
 
 -- and so is the world after a public start that answers 0 and any row of public steps, each by its bytes
 unfoldable pub public_steps : World → List (List ℕ) → World

@@ -2,7 +2,8 @@
 use mathlib.Core.Path.{◌≡◌}
 use mathlib.Core.Bool.{Bool, true, false, not, ◌||◌}
 use Prim.Native.Nat.{ℕ, ◌<◌}
-use Rattle.search.proofs.Booleans.{apart, test, and2, implies_out, not_out}
+use Rattle.std.proofs.lemmas.Bool.{and_parts, not-true}
+use Rattle.search.proofs.Booleans.{apart, test, implies_out}
 use Rattle.search.proofs.Every.{every_at}
 use Rattle.world.specs.declared.World.{World}
 use Rattle.world.specs.Sizes.{servers, hold_places}
@@ -27,8 +28,8 @@ still w s k h c l q =
     let own = correct w.roster s in
     let held = hold_quiet w.executions (next_of (delivered_of w s)) (hold_of w s) in
     let here = every_at (λ (i : ℕ). server_quiet w i) servers q s h in
-    let parts = and2 (outgoing_quiet w.roster (outgoing_of w s)) (not own || held) here in
-    not_out _ (every_at (λ (i : ℕ). not (stirs_at w s i)) hold_places (implies_out own held parts.1 c) k l)
+    let parts = and_parts (outgoing_quiet w.roster (outgoing_of w s)) (not own || held) here in
+    not-true _ (every_at (λ (i : ℕ). not (stirs_at w s i)) hold_places (implies_out own held parts.1 c) k l)
 
 pub stirring_stays : StirringStays
 stirring_stays w s k e h c l p y =

@@ -1,15 +1,13 @@
 -- Document 01, "The listing". A text is the list of its bytes in ASCII.
-use Rattle.std.specs.Prelude.{ℕ, zero, suc, ◌+◌, ◌/◌, ◌%◌, cond, List, [], ◌∷◌, ◌++◌, ltb, get_or, take}
+use Rattle.std.specs.Prelude.{ℕ, zero, suc, ◌+◌, ◌/◌, ◌%◌, cond, List, [], ◌∷◌, ◌++◌, ltb, get_or, take, Ok, Err}
 use Rattle.world.specs.declared.World.{World}
 use Rattle.world.specs.declared.roster.Roster.{Roster}
 use Rattle.world.specs.declared.sending.Sending.{Sending}
 use Rattle.world.specs.declared.delivered.Delivered.{Delivered}
 use Rattle.world.specs.Roster.{faulty, faults, threshold}
 use Rattle.world.specs.Boxes.{no_items}
-use Rattle.format.specs.declared.verdict.Verdict.{Verdict}
-use Rattle.format.specs.declared.verdict.Verdict.TheVariants.{Accepted, Refused}
 use Rattle.format.specs.Records.{asked}
-use Rattle.format.specs.Judging.{refusal_code, judged}
+use Rattle.format.specs.Judging.{refusal_code, Verdict, judged}
 use Rattle.protocol.specs.Steps.{world_after, answers_of}
 use Rattle.protocol.specs.Runs.{with_room, start_world}
 
@@ -110,9 +108,9 @@ run_lines records answers w =
 
 -- the whole listing of a schedule's fate
 abbrev pub listing_by : List ℕ → Verdict → List ℕ
-listing_by s (Accepted records) =
+listing_by s (Ok records) =
     run_lines records (answers_of (start_world s) (asked s)) (world_after (start_world s) (asked s))
-listing_by s (Refused why offset) = refused_line (refusal_code why) offset
+listing_by s (Err e) = refused_line (refusal_code e.why) e.offset
 
 -- of a schedule with room for so many answers; 26 is listed as 20 to 25 are
 unfoldable pub listing_of : List ℕ → ℕ → List ℕ

@@ -1,4 +1,4 @@
--- What a step does to the whole world: the boxes that it touches are ends out, its rule is applied to them, and they
+-- What a step does to the whole world: the boxes that it touches are taken out, its rule is applied to them, and they
 -- are put back.
 use Rattle.std.specs.Prelude.{ℕ, List, [], ◌∷◌, get_or, set}
 use Rattle.world.specs.declared.World.{World}

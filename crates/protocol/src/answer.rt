@@ -2,7 +2,7 @@
 ghost use Rattle.std.specs.Prelude.{◌≡◌};
 ghost use Rattle.protocol.specs.Answers.{answer_code};
 
-#[derive(Clone, Copy)]
+#[derive(Clone, Copy, Debug, PartialEq, Eq)]
 pub enum Answer {
     Done,
     Dropped,
@@ -20,12 +20,12 @@ pub enum Answer {
     Recall,
 }
 
-impl Answer {
+impl From<Answer> for u8 {
+    ghost from_gives = { λ answer code. code ≡ answer_code answer };
+
     // The code that document 01 gives it.
-    pub fn code(self) -> u8
-        ensures { result ≡ answer_code self }
-    {
-        match self {
+    fn from(answer: Answer) -> u8 {
+        match answer {
             Answer::Done => 0,
             Answer::Dropped => 1,
             Answer::Wait => 2,

@@ -8,4 +8,4 @@ mod ending;
 
 pub use answer::Answer;
 pub use boxes::{Boxes, Requested, Ruling, Touch};
-pub use ending::{Outcome, Ran};
+pub use ending::{Outcome, Ran, Stepped};

@@ -6,28 +6,34 @@ use native.Mathlib.Omega.{arith}
 use native.Mathlib.Numerals.{add-one}
 use lib.ListN.{take-append-drop, get_or, length, take, drop, set, length-set}
 use lib.Seq.{take-suc-set, drop-set-lt, drop-drop}
+use mathlib.Core.Bool.{true}
+use borrow.Author.Tests.{le-leb}
+use lib.Dec.{leb}
+use Rattle.std.specs.Prelude.{Ok}
+use Rattle.search.specs.Tests.{must}
+use Rattle.world.specs.Fresh.{fresh_world}
+use Rattle.format.specs.Judging.{judged}
+use Rattle.format.proofs.Judged.{accepted_means}
+use Rattle.protocol.specs.Runs.{start_world, ran_of, run_told, written_of}
+use Rattle.rehearsal.proofs.Public.{sliced}
 use Rattle.world.specs.declared.World.{World}
 use Rattle.world.specs.declared.outgoing.Packet.{Packet}
 use Rattle.world.specs.declared.hold.Entry.{Entry}
-use Rattle.world.specs.Sizes.{command_bytes}
 use Rattle.world.specs.Outgoing.{packet_at}
 use Rattle.world.specs.Hold.{entry_at}
-use Rattle.world.specs.Boxes.{seat, with_requests, no_packets, no_entries}
+use Rattle.world.specs.Boxes.{seat, no_packets, no_entries}
 use Rattle.protocol.specs.declared.boxes.Ruling.{Ruling}
-use Rattle.protocol.specs.declared.boxes.Requested.{Requested}
-use Rattle.protocol.specs.Answers.{answer_code}
-use Rattle.protocol.specs.Rules.{request_of}
 use Rattle.format.specs.declared.kinds.Act.{Act}
 use Rattle.format.specs.declared.kinds.Kind.{Kind}
 use Rattle.format.specs.declared.kinds.Kind.TheVariants as kind
 use Rattle.format.specs.declared.reading.Read.{Read}
 use Rattle.format.specs.declared.reading.Read.TheVariants.{Record, End}
 use Rattle.format.specs.declared.reading.Read.TheVariants as read
-use Rattle.format.specs.Fields.{byte_at, four_at, bytes_at}
+use Rattle.format.specs.Fields.{byte_at}
 use Rattle.format.specs.Records.{read_at, Asked, asked_from, asked_by, asked_after, asked}
 use Rattle.format.proofs.Reader.{Known, known, is_record}
 use Rattle.protocol.specs.declared.boxes.Touch.{Touch}
-use Rattle.protocol.specs.Steps.{ends, put_back, boxes_of, step_of, world_after, answers_of}
+use Rattle.protocol.specs.Steps.{ends, put_back_step, boxes_of, step_of, world_after, answers_of}
 use Rattle.rehearsal.specs.Acts.{touch_by, touch_of, act_of}
 use Rattle.rehearsal.proofs.Lenses.{lens}
 
@@ -44,10 +50,13 @@ pub record Going (s out₀ : List ℕ) (w₀ : World) (out : List ℕ) (v : Worl
   pub beyond : drop k out ≡ drop k out₀
   pub world : world_after v (rest_of s at k) ≡ world_after w₀ (asked s)
 
-pub going_start : (s out : List ℕ) (w : World) → length (asked s) ≤ length out → Going s out w out w 3 0
-going_start s out w r =
+pub going_start : (s out : List ℕ) (v : World) (x y k : ℕ) → judged s ≡ Ok k → k ≤ length out → x ≡ byte_at s 1 → y ≡ byte_at s 2 → v ≡ fresh_world x y
+    → Going s out (start_world s) out v 3 0
+going_start s out v x y k j r ex ey ev =
+    let e : k ≡ length (asked s) = (accepted_means s k j).count in
+    let w : v ≡ start_world s = rw (ev, ex, ey) in
     let f : length s - 0 ≡ length s = omega arith in
-    record { near = omega arith; room = r; size = refl; count = rw f (omega arith); answers = rw f; beyond = refl; world = rw f }
+    record { near = omega arith; room = omega arith; size = refl; count = rw f (omega arith); answers = rw (w, f); beyond = refl; world = rw (w, f) }
 
 asked_more : (s : List ℕ) (fuel at b next : ℕ) (j : Kind) → read_at s at ≡ Record j b next → asked_after s (suc fuel) at ≡ asked_from j s b ∷ asked_after s fuel next
 unfolding asked_after asked_by
@@ -83,45 +92,39 @@ drop_later : (l m : List ℕ) (k : ℕ) → drop k l ≡ drop k m → drop (k + 
 drop_later l m k e = sym (drop-drop 1 k l) ∙ rw e (drop-drop 1 k m)
 
 -- one record more
-pub going_on : {s out₀ out : List ℕ} {w₀ v : World} {at k : ℕ} (b next a : ℕ) (j : Kind) (v' : World) → Going s out₀ w₀ out v at k → read_at s at ≡ Record j b next
-    → ends a v' ≡ step_of v (asked_from j s b) → Going s out₀ w₀ (set out k a) v' next (k + 1)
-going_on {s} {out₀} {out} {w₀} {v} {at} {k} b next a j v' g q t =
+pub going_on : (s out₀ out : List ℕ) (w₀ v : World) (at k b next a n : ℕ) (j : Kind) (v' : World) → Going s out₀ w₀ out v at k → read_at s at ≡ Record j b next
+    → ends a v' ≡ step_of v (asked_from j (take (length s - b) (drop b s)) 0) → n ≡ a → Going s out₀ w₀ (set out k n) v' next (k + 1)
+going_on s out₀ out w₀ v at k b next a n j v' g q t z =
     let r = rest_is s at k b next j g.near q in
     let o : Known s at b next = known s at b next j q in
     let p : k < length out = going_room b next j g q in
-    let n : k + suc (length (rest_of s next (k + 1))) ≡ length (asked s) = rw r at g.count in
+    let c : k + suc (length (rest_of s next (k + 1))) ≡ length (asked s) = rw r at g.count in
     let m : k ≤ at = g.near in
     let f : k < k + 1 = omega arith in
+    let u : ends n v' ≡ step_of v (asked_from j s b) = rw z (rw (sliced s b j) at t) in
     record {
       near = omega arith;
       room = g.room;
       size = simp length-set g.size;
       count = omega arith;
-      answers = told_more out (answers_of v' (rest_of s next (k + 1))) k a p ∙ rw (← answers_more v (asked_from j s b) (rest_of s next (k + 1)) a v' t, ← r) g.answers;
-      beyond = rw (drop-set-lt (k + 1) out k a f) (drop_later out out₀ k g.beyond);
-      world = rw (← world_more v (asked_from j s b) (rest_of s next (k + 1)) a v' t, ← r) g.world;
+      answers = told_more out (answers_of v' (rest_of s next (k + 1))) k n p ∙ rw (← answers_more v (asked_from j s b) (rest_of s next (k + 1)) n v' u, ← r) g.answers;
+      beyond = rw (drop-set-lt (k + 1) out k n f) (drop_later out out₀ k g.beyond);
+      world = rw (← world_more v (asked_from j s b) (rest_of s next (k + 1)) n v' u, ← r) g.world;
     }
 
--- a request's turn
-pub store_turn : (s : List ℕ) (b n : ℕ) (j : Kind) (v : World) (r : Requested) → j ≡ kind.Request
-    → r ≡ request_of v.roster (byte_at s b) (four_at s (b + 1)) (byte_at s (b + 5)) (bytes_at s (b + 6) command_bytes) v.requests → n ≡ answer_code r.answer
-    → ends n (with_requests v r.requests) ≡ step_of v (asked_from j s b)
-unfolding step_of
-store_turn s b n j v r ej er en = rw (ej, en, er)
-
 -- the boxes that an act touches
-touch_is : (s : List ℕ) (b x y i : ℕ) (a : Act) (v : World) (p : Packet) (e : Entry) (t : Touch) → x ≡ byte_at s b → y ≡ byte_at s (b + 1) → i ≡ seat x
-    → p ≡ packet_at (get_or v.outgoing i no_packets) y → e ≡ entry_at (get_or v.holds i no_entries) y → t ≡ touch_by a x y p e → t ≡ touch_of v a s b
-touch_is s b x y i a v p e t ex ey ei ep ee et = rw (et, ep, ee, ei, ex, ey)
+touch_is : (s : List ℕ) (x y i : ℕ) (a : Act) (v : World) (p : Packet) (e : Entry) (t : Touch) → x ≡ byte_at s 0 → y ≡ byte_at s 1 → i ≡ seat x
+    → p ≡ packet_at (get_or v.outgoing i no_packets) y → e ≡ entry_at (get_or v.holds i no_entries) y → t ≡ touch_by a x y p e → t ≡ touch_of v a s 0
+touch_is s x y i a v p e t ex ey ei ep ee et = rw (et, ep, ee, ei, ex, ey)
 
--- an act's turn: the boxes are ends out, its rule is applied, and they are put back
-pub act_turn : (s : List ℕ) (b n x y i : ℕ) (j : Kind) (a : Act) (v : World) (p : Packet) (e : Entry) (t : Touch) (r : Ruling) → j ≡ kind.Act a
-    → x ≡ byte_at s b → y ≡ byte_at s (b + 1) → i ≡ seat x → p ≡ packet_at (get_or v.outgoing i no_packets) y
-    → e ≡ entry_at (get_or v.holds i no_entries) y → t ≡ touch_by a x y p e → r ≡ act_of v.roster a s b (boxes_of v t) → n ≡ answer_code r.answer
-    → ends n (put_back v t r.boxes) ≡ step_of v (asked_from j s b)
-act_turn s b n x y i j a v p e t r ej ex ey ei ep ee et er en =
-    let z : t ≡ touch_of v a s b = touch_is s b x y i a v p e t ex ey ei ep ee et in
-    rw (ej, en, er, z) (lens v a s b)
+-- an act's turn: the boxes are taken out, its rule is applied, and they are put back
+pub act_turn : (s : List ℕ) (x y i : ℕ) (a : Act) (v : World) (p : Packet) (e : Entry) (t : Touch) (r : Ruling)
+    → x ≡ byte_at s 0 → y ≡ byte_at s 1 → i ≡ seat x → p ≡ packet_at (get_or v.outgoing i no_packets) y
+    → e ≡ entry_at (get_or v.holds i no_entries) y → t ≡ touch_by a x y p e → r ≡ act_of v.roster a s 0 (boxes_of v t)
+    → put_back_step v t r ≡ step_of v (asked_from (kind.Act a) s 0)
+act_turn s x y i a v p e t r ex ey ei ep ee et er =
+    let z : t ≡ touch_of v a s 0 = touch_is s x y i a v p e t ex ey ei ep ee et in
+    rw (er, z) (lens v a s 0)
 
 none_by : (s : List ℕ) (x : Read) (more : ℕ → List Asked) → is_record x ≡ 0 → asked_by more s x ≡ []
 unfolding asked_by
@@ -135,16 +138,23 @@ rest_none s zero at h = refl
 rest_none s (suc fuel) at h = none_by s (read_at s at) _ h
 
 -- where no record is left
-pub record Ended (s out₀ : List ℕ) (w₀ : World) (out : List ℕ) (v : World) (k : ℕ) : Type 0 where
-  pub all : k ≡ length (asked s)
-  pub answers : out ≡ answers_of w₀ (asked s) ++ drop k out₀
-  pub world : v ≡ world_after w₀ (asked s)
+pub record Ended (s out₀ out : List ℕ) (v : World) (k : ℕ) : Type 0 where
+  pub value : run_told (Ok (record { records = k; world = v })) ≡ ran_of s (length out₀)
+  pub answers_after : out ≡ written_of s out₀
 
-pub going_end : {s out₀ out : List ℕ} {w₀ v : World} {at k : ℕ} → Going s out₀ w₀ out v at k → is_record (read_at s at) ≡ 0 → Ended s out₀ w₀ out v k
-unfolding answers_of world_after
-going_end {s} {out₀} {out} {w₀} {v} {at} {k} g h =
+pub going_end : {s out₀ out : List ℕ} {v : World} {at k : ℕ} (m : ℕ) → Going s out₀ (start_world s) out v at k → judged s ≡ Ok m → is_record (read_at s at) ≡ 0
+    → Ended s out₀ out v k
+unfolding answers_of world_after ran_of written_of must
+going_end {s} {out₀} {out} {v} {at} {k} m g j h =
     let r : rest_of s at k ≡ [] = rest_none s (length s - k) at h in
     let n : k + 0 ≡ length (asked s) = rw r at g.count in
-    let a : take k out ++ [] ≡ answers_of w₀ (asked s) = rw r at g.answers in
-    let b : take k out ≡ answers_of w₀ (asked s) = sym (append-nil (take k out)) ∙ a in
-    record { all = omega arith; answers = sym (take-append-drop k out) ∙ rw (b, g.beyond); world = rw r at g.world }
+    let a : take k out ++ [] ≡ answers_of (start_world s) (asked s) = rw r at g.answers in
+    let b : take k out ≡ answers_of (start_world s) (asked s) = sym (append-nil (take k out)) ∙ a in
+    let e : m ≡ k = (accepted_means s m j).count ∙ omega arith in
+    let room = g.room in
+    let l : leb k (length out₀) ≡ true = le-leb _ _ (omega arith) in
+    let w : v ≡ world_after (start_world s) (asked s) = rw r at g.world in
+    record {
+      value = rw (j, e, l, w);
+      answers_after = rw (j, e, l) (sym (take-append-drop k out) ∙ rw (b, g.beyond));
+    }

@@ -1,33 +1,14 @@
 // The boxes that a record's step touches, and its rule on them.
-ghost use Rattle.std.specs.Prelude.{◌≡◌, ◌+◌, ◌<◌, ◌≤◌, length};
-ghost use Rattle.world.specs.Sizes.{servers, requests_most};
-ghost use Rattle.world.specs.Boxes.{seat, within};
-ghost use Rattle.format.specs.Fields.{byte_at};
-ghost use Rattle.rehearsal.specs.Acts.{Seated, touch_by, act_of};
-ghost use Rattle.protocol.specs.Rules.{request_of};
-ghost use Rattle.format.specs.Fields.{four_at, bytes_at};
+ghost use Rattle.std.specs.Prelude.{◌≡◌};
 ghost use Rattle.world.specs.Sizes.{command_bytes};
+ghost use Rattle.format.specs.Fields.{byte_at, four_at, bytes_at};
+ghost use Rattle.protocol.specs.Rules.{request_of};
+ghost use Rattle.rehearsal.specs.Acts.{Seated, touch_by, act_of};
 
 use format::Act;
 use protocol::{Boxes, Requested, Ruling, Touch};
-use schedule::{byte_at, command_at, digest_at, four_at, two_at};
-use world::{Entry, Packet, Requests, Roster, World};
-
-// A server's place among the boxes; the first where there is no such server.
-pub(crate) fn seat_of(server: u8) -> usize
-    ensures { (result ≡ seat server) × (result < servers) }
-{
-    let i = server as usize;
-    if i < World::SERVERS { i } else { 0 }
-}
-
-// A slot's place among the requests; the first where there is no such slot.
-pub(crate) fn slot_of(slot: u8) -> usize
-    ensures { (result ≡ within requests_most slot) × (result < requests_most) }
-{
-    let i = slot as usize;
-    if i < Requests::MOST { i } else { 0 }
-}
+use schedule::{byte_at, bytes_at, four_at, two_at};
+use world::{Entry, Packet, Requests, Roster, World, within};
 
 // Whose boxes a record's step touches: its body starts with x and y, and those name the packet p or the entry e of
 // server x.
@@ -35,66 +16,42 @@ pub(crate) fn touch_by(act: Act, x: u8, y: u8, p: Packet, e: Entry) -> Touch
     ensures value { result ≡ touch_by act x y p e }
     ensures seated { Seated result }
 {
-    let server = seat_of(x);
+    let seat = |name: u8| within(World::SERVERS, name);
+    let server = seat(x);
+    let own = Touch {
+        server,
+        holder: server,
+        sender: server,
+        slot: 0,
+    };
     match act {
         Act::Multicast => Touch {
-            server,
-            holder: server,
-            sender: server,
-            slot: slot_of(y),
+            slot: within(Requests::MOST, y),
+            ..own
         },
         Act::Arrive => Touch {
-            server,
-            holder: seat_of(p.to),
-            sender: server,
-            slot: 0,
+            holder: seat(p.to),
+            ..own
         },
-        Act::Propose => Touch {
-            server,
-            holder: server,
-            sender: seat_of(e.sending.sender),
-            slot: slot_of(e.sending.slot),
+        Act::Propose | Act::Settle => Touch {
+            sender: seat(e.sending.sender),
+            slot: within(Requests::MOST, e.sending.slot),
+            ..own
         },
-        Act::Settle => Touch {
-            server,
-            holder: server,
-            sender: seat_of(e.sending.sender),
-            slot: slot_of(e.sending.slot),
-        },
-        Act::Deliver => Touch {
-            server,
-            holder: server,
-            sender: server,
-            slot: 0,
-        },
-        Act::ForgePacket => Touch {
-            server,
-            holder: server,
-            sender: server,
-            slot: 0,
-        },
-        Act::ForgeSend => Touch {
-            server,
-            holder: server,
-            sender: server,
-            slot: 0,
-        },
+        Act::Deliver | Act::ForgePacket | Act::ForgeSend => own,
         Act::ForgeReceive => Touch {
-            server,
-            holder: server,
-            sender: seat_of(y),
-            slot: 0,
+            sender: seat(y),
+            ..own
         },
     }
 }
 
-// The rule of a record whose body starts at b, on the boxes.
-pub(crate) fn act(act: Act, s: &[u8], b: usize, roster: Roster, boxes: Boxes) -> Ruling
-    requires { b ≤ length s.now }
-    ensures { result ≡ act_of roster act s.now b boxes }
+// The rule of a record with this body, on the boxes.
+pub(crate) fn act(act: Act, body: &[u8], roster: Roster, boxes: Boxes) -> Ruling
+    ensures { result ≡ act_of roster act body.now 0 boxes }
 {
-    let x = byte_at(s, b);
-    let y = byte_at(s, b + 1);
+    let x = byte_at(body, 0);
+    let y = byte_at(body, 1);
     match act {
         Act::Multicast => rules::multicast(roster, x, y, boxes),
         Act::Arrive => rules::arrive(roster, x, y, boxes),
@@ -105,37 +62,30 @@ pub(crate) fn act(act: Act, s: &[u8], b: usize, roster: Roster, boxes: Boxes) ->
             roster,
             x,
             y,
-            byte_at(s, b + 2),
-            two_at(s, b + 3),
-            byte_at(s, b + 5),
+            byte_at(body, 2),
+            two_at(body, 3),
+            byte_at(body, 5),
             boxes,
         ),
-        Act::ForgeSend => rules::forge_send(
-            roster,
-            x,
-            two_at(s, b + 1),
-            digest_at(s, b + 3),
-            boxes,
-        ),
+        Act::ForgeSend => rules::forge_send(roster, x, two_at(body, 1), bytes_at(body, 3), boxes),
         Act::ForgeReceive => {
-            rules::forge_receive(roster, x, y, two_at(s, b + 2), digest_at(s, b + 4), boxes)
+            rules::forge_receive(roster, x, y, two_at(body, 2), bytes_at(body, 4), boxes)
         }
     }
 }
 
-// The request of a record whose body starts at b.
-pub(crate) fn store(s: &[u8], b: usize, roster: Roster, requests: Requests) -> Requested
-    requires { b ≤ length s.now }
+// The request of a record with this body.
+pub(crate) fn store(body: &[u8], roster: Roster, requests: Requests) -> Requested
     ensures { result ≡
-        request_of roster (byte_at s.now b) (four_at s.now (b + 1)) (byte_at s.now (b + 5))
-        (bytes_at s.now (b + 6) command_bytes) requests }
+        request_of roster (byte_at body.now 0) (four_at body.now 1) (byte_at body.now 5)
+        (bytes_at body.now 6 command_bytes) requests }
 {
     rules::request(
         roster,
         requests,
-        byte_at(s, b),
-        four_at(s, b + 1),
-        byte_at(s, b + 5),
-        command_at(s, b + 6),
+        byte_at(body, 0),
+        four_at(body, 1),
+        byte_at(body, 5),
+        bytes_at(body, 6),
     )
 }

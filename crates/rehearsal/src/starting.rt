@@ -1,24 +1,18 @@
 // A start.
 ghost use Rattle.std.specs.Prelude.{◌≡◌};
-ghost use Rattle.protocol.specs.Runs.{start_of};
+ghost use Rattle.protocol.specs.Runs.{start_of, start_told};
 
 use format::Refusal;
-use protocol::Outcome;
 use world::{Roster, World};
 
-// A fresh world; 25 and a world of zeros where no world may start so.
-pub fn start(n: u8, faulty: u8) -> Outcome
-    ensures { result ≡ start_of n faulty }
+// A fresh world; 25 where no world may start so.
+#[tactic(auto, unfolding(protocol::specs::Runs::start_of, search::specs::Tests::must))]
+pub fn start(n: u8, faulty: u8) -> Result<World, Refusal>
+    ensures { start_told result ≡ start_of n faulty }
 {
     let roster = Roster { n, faulty };
     if !roster.is_good() {
-        return Outcome {
-            code: Refusal::BadStart.code(),
-            world: World::fresh(0, 0),
-        };
+        return Err(Refusal::BadStart);
     }
-    Outcome {
-        code: 0,
-        world: World::fresh(n, faulty),
-    }
+    Ok(World::fresh(n, faulty))
 }

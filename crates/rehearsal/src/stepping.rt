@@ -1,110 +1,81 @@
 // A single step.
-ghost use Rattle.std.specs.Prelude.{◌≡◌, ◌≤◌, length};
+ghost use Rattle.std.specs.Prelude.{◌≡◌};
 ghost use Rattle.format.specs.Records.{asked_from};
 ghost use Rattle.format.specs.declared.kinds.Kind.TheVariants.{Request, Act as Acting};
-ghost use Rattle.protocol.specs.Steps.{step_of};
-ghost use Rattle.protocol.specs.Runs.{public_step};
+ghost use Rattle.protocol.specs.Answers.{answer_code};
+ghost use Rattle.protocol.specs.Steps.{ends, step_of};
+ghost use Rattle.protocol.specs.Runs.{public_step, step_told};
 
-use crate::boxing::{act, seat_of, store, touch_by};
+use crate::boxing::{act, store, touch_by};
 use format::{Act, Kind, Read, Refusal};
-use protocol::{Boxes, Outcome};
+use protocol::{Answer, Boxes, Stepped};
 use schedule::{byte_at, read_at};
-use world::World;
+use world::{World, within};
 
-// The request of a record whose body starts at b, on the whole world.
-fn store_in(w: World, s: &[u8], b: usize) -> Outcome
-    requires { b ≤ length s.now }
-    ensures { result ≡ step_of w (asked_from Request s.now b) }
+// The request of a record with this body, on the whole world.
+#[tactic(auto, unfolding(protocol::specs::Steps::step_of))]
+fn store_in(w: &mut World, body: &[u8]) -> Answer
+    ensures { ends (answer_code result) w.new ≡ step_of w.old (asked_from Request body.now 0) }
 {
-    let q = w.requests;
-    let stored = store(s, b, w.roster, q);
-    let answer = stored.answer;
-    let q = stored.requests;
-    let mut v = w;
-    v.requests = q;
-    Outcome {
-        code: answer.code(),
-        world: v,
-    }
+    let stored = store(body, w.roster, w.requests);
+    w.requests = stored.requests;
+    stored.answer
 }
 
-// The act of a record whose body starts at b, on the whole world: the boxes that it touches are ends out and put back.
-fn act_in(w: World, a: Act, s: &[u8], b: usize) -> Outcome
-    requires { b ≤ length s.now }
-    ensures { result ≡ step_of w (asked_from (Acting a) s.now b) }
+// The act of a record with this body, on the whole world: the boxes that it touches are taken out and put back.
+#[tactic(auto, using(crate::proofs::Going::act_turn))]
+fn act_in(w: &mut World, a: Act, body: &[u8]) -> Answer
+    ensures { ends (answer_code result) w.new ≡ step_of w.old (asked_from (Acting a) body.now 0) }
 {
-    let x = byte_at(s, b);
-    let y = byte_at(s, b + 1);
-    let i = seat_of(x);
+    let x = byte_at(body, 0);
+    let y = byte_at(body, 1);
+    let i = within(World::SERVERS, x);
     let t = touch_by(a, x, y, w.outgoing[i].at(y), w.holds[i].at(y));
-    let server = t.server;
-    let holder = t.holder;
-    let sender = t.sender;
-    let slot = t.slot;
-    let stored = w.requests;
-    let request = stored.slots[slot];
-    let executions = w.executions[sender];
-    let outgoing = w.outgoing[server];
-    let hold = w.holds[holder];
-    let delivered = w.delivered[server];
     let boxes = Boxes {
         numbered: w.numbered,
-        stored: stored.count,
-        request,
-        executions,
-        outgoing,
-        hold,
-        delivered,
+        stored: w.requests.count,
+        request: w.requests.slots[t.slot],
+        executions: w.executions[t.sender],
+        outgoing: w.outgoing[t.server],
+        hold: w.holds[t.holder],
+        delivered: w.delivered[t.server],
     };
-    let r = act(a, s, b, w.roster, boxes);
-    let answer = r.answer;
-    let c = r.boxes;
-    let mut v = w;
-    v.numbered = c.numbered;
-    let executions = c.executions;
-    v.executions[sender] = executions;
-    let outgoing = c.outgoing;
-    v.outgoing[server] = outgoing;
-    let hold = c.hold;
-    v.holds[holder] = hold;
-    let delivered = c.delivered;
-    v.delivered[server] = delivered;
-    Outcome {
-        code: answer.code(),
-        world: v,
+    let ruling = act(a, body, w.roster, boxes);
+    let after = ruling.boxes;
+    w.numbered = after.numbered;
+    w.executions[t.sender] = after.executions;
+    w.outgoing[t.server] = after.outgoing;
+    w.holds[t.holder] = after.hold;
+    w.delivered[t.server] = after.delivered;
+    ruling.answer
+}
+
+// The step of a record of this kind and body, on the whole world.
+pub(crate) fn step_in(w: &mut World, kind: Kind, body: &[u8]) -> Answer
+    ensures { ends (answer_code result) w.new ≡ step_of w.old (asked_from kind body.now 0) }
+{
+    match kind {
+        Kind::Request => store_in(w, body),
+        Kind::Act(a) => act_in(w, a, body),
     }
 }
 
 // The step of one record, from a sound world; bytes after the record are ignored.
-pub fn step(w: World, s: &[u8]) -> Outcome
-    ensures { result ≡ public_step w s.now }
+#[tactic(auto, using(format::proofs::Reader::known, crate::proofs::Public::one_record), unfolding(protocol::specs::Runs::public_step, protocol::specs::Runs::public_step_by, search::specs::Tests::must))]
+pub fn step(w: World, s: &[u8]) -> Result<Stepped, Refusal>
+    ensures { step_told w result ≡ public_step w s.now }
 {
     if !soundness::sound(w) {
-        return Outcome {
-            code: Refusal::BadWorld.code(),
-            world: w,
-        };
+        return Err(Refusal::BadWorld);
     }
     let read = read_at(s, 0);
-    let Read::Record {
-        kind,
-        start,
-        next: _,
-    } = read
-    else {
+    let Read::Record { kind, start, .. } = read else {
         let Read::Refused(why) = read else {
-            return Outcome {
-                code: Refusal::Cut.code(),
-                world: w,
-            };
+            return Err(Refusal::Cut);
         };
-        return Outcome {
-            code: why.code(),
-            world: w,
-        };
+        return Err(why);
     };
-    match kind {
-        Kind::Request => store_in(w, s, start),
-        Kind::Act(a) => act_in(w, a, s, start),
-    }
+    let mut world = w;
+    let answer = step_in(&mut world, kind, &s[start..]);
+    Ok(Stepped { answer, world })
 }

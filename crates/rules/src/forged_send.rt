@@ -1,15 +1,35 @@
 // Forge send.
 ghost use Rattle.std.specs.Prelude.{◌≡◌};
-ghost use Rattle.protocol.specs.Rules.{forge_send_of};
+ghost use Rattle.protocol.specs.Rules.{answered, forge_send_of};
+ghost use Rattle.rules.specs.Tested.{told};
 
-use crate::boxes::answer;
 use crate::orderer::make;
+use crate::testing::{must, ruled};
 use fips180::Digest;
 use protocol::{Answer, Boxes, Ruling};
 use world::{Executions, Roster};
 
-// An execution of its own, with any id and any digest.
+// The forged execution, or the answer of the first test that fails: 4, 5, 13, 10.
 #[tactic(auto, unfolding(protocol::specs::Rules::forge_send_of, search::specs::Tests::must))]
+fn try_forge_send(
+    roster: Roster,
+    server: u8,
+    id: u16,
+    digest: [u8; Digest::BYTES],
+    b: &mut Boxes,
+) -> Result<Answer, Answer>
+    ensures { answered (told result) b.new ≡ forge_send_of roster server id digest b.old }
+{
+    must(roster.member(server), Answer::BadServer)?;
+    must(roster.is_faulty(server), Answer::WrongSide)?;
+    must(b.executions.find(id).is_none(), Answer::Recall)?;
+    let made = b.executions.count as usize;
+    must(made < Executions::MOST, Answer::Quota)?;
+    make(roster, server, id, digest, b);
+    Ok(Answer::Done)
+}
+
+// An execution of its own, with any id and any digest.
 pub fn forge_send(
     roster: Roster,
     server: u8,
@@ -19,17 +39,5 @@ pub fn forge_send(
 ) -> Ruling
     ensures { result ≡ forge_send_of roster server id digest b }
 {
-    if !roster.member(server) {
-        return answer(b, Answer::BadServer);
-    }
-    if !roster.is_faulty(server) {
-        return answer(b, Answer::WrongSide);
-    }
-    let None = b.executions.find(id) else {
-        return answer(b, Answer::Recall);
-    };
-    if Executions::MOST <= b.executions.count as usize {
-        return answer(b, Answer::Quota);
-    }
-    answer(make(b, roster, server, id, digest), Answer::Done)
+    ruled(b, |b| try_forge_send(roster, server, id, digest, b))
 }

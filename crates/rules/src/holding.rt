@@ -1,23 +1,24 @@
 // What a step does to one entry of the hold.
 ghost use Rattle.std.specs.Prelude.{◌≡◌};
-ghost use Rattle.world.specs.Hold.{entry_freed};
-ghost use Rattle.protocol.specs.Rules.{raised, dropped_at};
+ghost use Rattle.protocol.specs.Rules.{answered, raised, dropped_at};
 
-use crate::boxes::{answer, put};
-use protocol::{Answer, Boxes, Ruling};
+use protocol::{Answer, Boxes};
 use world::Entry;
 
 // The entry freed: the step is dropped.
-pub(crate) fn drop_entry(b: Boxes, place: u8) -> Ruling
-    ensures { result ≡ dropped_at place b }
+pub(crate) fn drop_entry(place: u8, b: &mut Boxes) -> Answer
+    ensures { answered result b.new ≡ dropped_at place b.old }
 {
-    answer(put(b, place, Entry::free()), Answer::Dropped)
+    b.hold = b.hold.put(place as usize, Entry::free());
+    Answer::Dropped
 }
 
 // The entry at a place, at a later stage and with a number.
-pub(crate) fn raise(b: Boxes, place: u8, stage: u8, number: u32) -> Boxes
-    ensures { result ≡ raised place stage number b }
+pub(crate) fn raise(place: u8, stage: u8, number: u32, b: &mut Boxes)
+    ensures { b.new ≡ raised place stage number b.old }
 {
-    let e = b.hold.at(place);
-    put(b, place, Entry::new(stage, e.sending, number))
+    let sending = b.hold.at(place).sending;
+    b.hold = b
+        .hold
+        .put(place as usize, Entry::new(stage, sending, number));
 }

@@ -1,7 +1,9 @@
 // The rules of document 01's "Steps, with tests in order": what each kind of step does to the boxes that it touches.
 #![tactic(auto)]
 
-mod boxes;
+// A rule takes the roster, a server and the boxes one by one, in no struct: so does its definition in protocol's Rules,
+// and a struct's clauses would take it apart again.
+
 mod holding; // an entry freed or raised
 mod orderer; // an execution made, a call recorded
 mod arrival;
@@ -13,6 +15,7 @@ mod proposal;
 mod sending;
 mod settling;
 mod storing;
+mod testing; // tests that several rules share
 
 pub use arrival::arrive;
 pub use delivery::deliver;

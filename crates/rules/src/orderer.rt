@@ -5,43 +5,28 @@ ghost use Rattle.protocol.specs.Rules.{made, recorded};
 
 use fips180::Digest;
 use protocol::Boxes;
-use world::{Execution, Executions, Ordered, Roster};
+use world::{Execution, Roster};
 
 // The execution after the sender's others, numbered at once where T is 1.
-pub(crate) fn make(
-    b: Boxes,
-    roster: Roster,
-    sender: u8,
-    id: u16,
-    digest: [u8; Digest::BYTES],
-) -> Boxes
-    requires { b.executions.count < executions_most }
-    ensures { result ≡ made roster sender id digest b }
+#[tactic(auto, unfolding(protocol::specs::Rules::made))]
+pub(crate) fn make(roster: Roster, sender: u8, id: u16, digest: [u8; Digest::BYTES], b: &mut Boxes)
+    requires { b.old.executions.count < executions_most }
+    ensures { b.new ≡ made roster sender id digest b.old }
 {
     let o = Execution::open(sender, id, digest).order(roster, b.numbered);
-    let e = o.execution;
-    let mut t = b.executions;
-    let k = t.count;
-    let at = k as usize;
-    t.table[at] = e;
-    t.count = k + 1;
-    let mut c = b;
-    c.executions = t;
-    c.numbered = o.numbered;
-    c
+    b.executions.table[b.executions.count as usize] = o.execution;
+    b.executions.count += 1;
+    b.numbered = o.numbered;
 }
 
 // A server's call at the execution of a place.
-pub(crate) fn record(b: Boxes, roster: Roster, server: u8, place: usize) -> Boxes
+#[tactic(auto, unfolding(protocol::specs::Rules::recorded))]
+pub(crate) fn record(roster: Roster, server: u8, place: usize, b: &mut Boxes)
     requires { place < executions_most }
-    ensures { result ≡ recorded roster server place b }
+    ensures { b.new ≡ recorded roster server place b.old }
 {
-    let mut t = b.executions;
-    let o = t.table[place].call(server).order(roster, b.numbered);
-    let e = o.execution;
-    t.table[place] = e;
-    let mut c = b;
-    c.executions = t;
-    c.numbered = o.numbered;
-    c
+    let called = b.executions.table[place].call(server);
+    let o = called.order(roster, b.numbered);
+    b.executions.table[place] = o.execution;
+    b.numbered = o.numbered;
 }

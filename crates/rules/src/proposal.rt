@@ -1,54 +1,39 @@
 // Propose.
-ghost use Rattle.std.specs.Prelude.{◌≡◌, ◌<◌};
-ghost use Rattle.world.specs.Sizes.{executions_most};
-ghost use Rattle.protocol.specs.Rules.{propose_of, propose_to};
+ghost use Rattle.std.specs.Prelude.{◌≡◌};
+ghost use Rattle.protocol.specs.Rules.{answered, propose_of};
+ghost use Rattle.rules.specs.Tested.{told};
 
-use crate::boxes::answer;
 use crate::holding::{drop_entry, raise};
 use crate::orderer::record;
+use crate::testing::{found, ruled};
 use protocol::{Answer, Boxes, Ruling};
 use world::{Entry, Roster, has, same_digest};
 
-// The proposal at an execution that exists.
-fn propose_to(roster: Roster, server: u8, place: u8, k: usize, b: Boxes) -> Ruling
-    requires { k < executions_most }
-    ensures { result ≡ propose_to roster server place k b }
+// The proposal, or the answer of the first test that fails: 4, 5, 6, 2.
+#[tactic(auto, using(search::proofs::Laws::found_in), unfolding(protocol::specs::Rules::propose_of, protocol::specs::Rules::propose_found, protocol::specs::Rules::propose_to, search::specs::Tests::must))]
+fn try_propose(roster: Roster, server: u8, place: u8, b: &mut Boxes) -> Result<Answer, Answer>
+    ensures { answered (told result) b.new ≡ propose_of roster server place b.old }
 {
-    let t = b.executions;
-    let x = t.table[k];
+    let k = found(roster, server, place, Entry::ONE, b)?;
+    let x = b.executions.table[k];
     if has(x.called, server) {
-        return drop_entry(b, place);
+        return Ok(drop_entry(place, b));
     }
     if !has(b.request.seals, server) {
-        return answer(raise(b, place, Entry::TWO, 0), Answer::Done);
+        raise(place, Entry::TWO, 0, b);
+        return Ok(Answer::Done);
     }
-    let own = b.request.digest;
-    let known = x.digest;
-    if !same_digest(own, known) {
-        return drop_entry(b, place);
+    if !same_digest(b.request.digest, x.digest) {
+        return Ok(drop_entry(place, b));
     }
-    answer(
-        record(raise(b, place, Entry::TWO, 0), roster, server, k),
-        Answer::Done,
-    )
+    raise(place, Entry::TWO, 0, b);
+    record(roster, server, k, b);
+    Ok(Answer::Done)
 }
 
 // A correct server tells the orderer of an entry at stage one.
 pub fn propose(roster: Roster, server: u8, place: u8, b: Boxes) -> Ruling
     ensures { result ≡ propose_of roster server place b }
 {
-    if !roster.member(server) {
-        return answer(b, Answer::BadServer);
-    }
-    if roster.is_faulty(server) {
-        return answer(b, Answer::WrongSide);
-    }
-    let e = b.hold.at(place);
-    if e.stage != Entry::ONE {
-        return answer(b, Answer::NoSuch);
-    }
-    let Some(k) = b.executions.find(e.sending.id) else {
-        return answer(b, Answer::Wait);
-    };
-    propose_to(roster, server, place, k, b)
+    ruled(b, |b| try_propose(roster, server, place, b))
 }

@@ -1,65 +1,50 @@
 // Multicast.
-ghost use Rattle.std.specs.Prelude.{◌≡◌, ◌<◌};
-ghost use Rattle.world.specs.Sizes.{executions_most};
-ghost use Rattle.protocol.specs.Rules.{roomy, multicast_of, multicast_done};
+ghost use Rattle.std.specs.Prelude.{◌≡◌};
+ghost use Rattle.protocol.specs.Rules.{answered, roomy, multicast_of};
+ghost use Rattle.rules.specs.Tested.{told};
 
-use crate::boxes::answer;
 use crate::orderer::make;
+use crate::testing::{correct, must, ruled};
 use protocol::{Answer, Boxes, Ruling};
 use world::{Entry, Executions, Roster, Sending, has, recipients};
 
 // No server is left out of a multicast's recipients but the sender.
 const NOBODY: u8 = 0;
 
-// The multicast that passed its tests: the execution, the server's own entry, and a packet for each other server.
-fn cast(roster: Roster, server: u8, slot: u8, b: Boxes) -> Boxes
-    requires { b.executions.count < executions_most }
-    ensures { result ≡ multicast_done roster server slot b }
+// Whether the recipients' packets and the server's own entry have places.
+fn has_room(roster: Roster, server: u8, b: &Boxes) -> bool
+    ensures { result ≡ roomy roster server b.now }
 {
-    let id = b.executions.count as u16 + 1;
-    let digest = b.request.digest;
+    (recipients(roster, NOBODY, server) <= b.outgoing.room()) & b.hold.has_room()
+}
+
+// The multicast, or the answer of the first test that fails: 4, 5, 6, 3, 10, 9. It makes the execution, keeps the
+// server's own entry, and sends a packet to each other server.
+#[tactic(auto, unfolding(protocol::specs::Rules::multicast_of, protocol::specs::Rules::multicast_done, protocol::specs::Rules::made, search::specs::Tests::must))]
+fn try_multicast(roster: Roster, server: u8, slot: u8, b: &mut Boxes) -> Result<Answer, Answer>
+    ensures { answered (told result) b.new ≡ multicast_of roster server slot b.old }
+{
+    correct(roster, server)?;
+    must(slot < b.stored, Answer::NoSuch)?;
+    must(has(b.request.seals, server), Answer::Dismissed)?;
+    let made = b.executions.count;
+    must((made as usize) < Executions::MOST, Answer::Quota)?;
+    must(has_room(roster, server, b), Answer::NoRoom)?;
+    let id = made as u16 + 1;
     let sending = Sending {
         id,
         sender: server,
         slot,
     };
-    let h = b.hold.keep(Entry::new(Entry::TWO, sending, 0));
-    let o = b.outgoing.send(roster, NOBODY, server, sending);
-    let mut v = make(b, roster, server, id, digest);
-    v.hold = h;
-    v.outgoing = o;
-    v
-}
-
-// Whether the recipients' packets and the server's own entry have places.
-fn has_room(roster: Roster, server: u8, b: Boxes) -> bool
-    ensures { result ≡ roomy roster server b }
-{
-    let needed = recipients(roster, NOBODY, server);
-    (needed <= b.outgoing.room()) & b.hold.has_room()
+    make(roster, server, id, b.request.digest, b);
+    b.hold = b.hold.keep(Entry::new(Entry::TWO, sending, 0));
+    b.outgoing = b.outgoing.send(roster, NOBODY, server, sending);
+    Ok(Answer::Done)
 }
 
 // A correct server sends a request that it has a good seal for.
 pub fn multicast(roster: Roster, server: u8, slot: u8, b: Boxes) -> Ruling
     ensures { result ≡ multicast_of roster server slot b }
 {
-    if !roster.member(server) {
-        return answer(b, Answer::BadServer);
-    }
-    if roster.is_faulty(server) {
-        return answer(b, Answer::WrongSide);
-    }
-    if b.stored <= slot {
-        return answer(b, Answer::NoSuch);
-    }
-    if !has(b.request.seals, server) {
-        return answer(b, Answer::Dismissed);
-    }
-    if Executions::MOST <= b.executions.count as usize {
-        return answer(b, Answer::Quota);
-    }
-    if !has_room(roster, server, b) {
-        return answer(b, Answer::NoRoom);
-    }
-    answer(cast(roster, server, slot, b), Answer::Done)
+    ruled(b, |b| try_multicast(roster, server, slot, b))
 }

@@ -1,57 +1,37 @@
 // Settle.
-ghost use Rattle.std.specs.Prelude.{◌≡◌, ◌<◌};
-ghost use Rattle.world.specs.Sizes.{executions_most};
-ghost use Rattle.protocol.specs.Rules.{settle_of, settle_to};
+ghost use Rattle.std.specs.Prelude.{◌≡◌};
+ghost use Rattle.protocol.specs.Rules.{answered, settle_of};
+ghost use Rattle.rules.specs.Tested.{told};
 
-use crate::boxes::answer;
 use crate::holding::{drop_entry, raise};
+use crate::testing::{found, must, ruled};
 use protocol::{Answer, Boxes, Ruling};
 use world::{Entry, Execution, Roster, recipients, same_digest};
 
-// The settling of an entry at an execution that exists.
-fn settle_to(roster: Roster, server: u8, place: u8, k: usize, b: Boxes) -> Ruling
-    requires { k < executions_most }
-    ensures { result ≡ settle_to roster server place k b }
+// The settling, or the answer of the first test that fails: 4, 5, 6, 2, 9.
+#[tactic(auto, using(search::proofs::Laws::found_in), unfolding(protocol::specs::Rules::settle_of, protocol::specs::Rules::settle_found, protocol::specs::Rules::settle_to, search::specs::Tests::must))]
+fn try_settle(roster: Roster, server: u8, place: u8, b: &mut Boxes) -> Result<Answer, Answer>
+    ensures { answered (told result) b.new ≡ settle_of roster server place b.old }
 {
-    let t = b.executions;
-    let x = t.table[k];
-    if x.number == Execution::UNNUMBERED {
-        return answer(b, Answer::Wait);
+    let k = found(roster, server, place, Entry::TWO, b)?;
+    let x = b.executions.table[k];
+    must(x.number != Execution::UNNUMBERED, Answer::Wait)?;
+    if !same_digest(b.request.digest, x.digest) {
+        return Ok(drop_entry(place, b));
     }
-    let own = b.request.digest;
-    let known = x.digest;
-    if !same_digest(own, known) {
-        return drop_entry(b, place);
+    let sending = b.hold.at(place).sending;
+    if sending.sender != server {
+        let needed = recipients(roster, x.mask, server);
+        must(needed <= b.outgoing.room(), Answer::NoRoom)?;
+        b.outgoing = b.outgoing.send(roster, x.mask, server, sending);
     }
-    let e = b.hold.at(place);
-    if e.sending.sender == server {
-        return answer(raise(b, place, Entry::THREE, x.number), Answer::Done);
-    }
-    if b.outgoing.room() < recipients(roster, x.mask, server) {
-        return answer(b, Answer::NoRoom);
-    }
-    let o = b.outgoing.send(roster, x.mask, server, e.sending);
-    let mut v = raise(b, place, Entry::THREE, x.number);
-    v.outgoing = o;
-    answer(v, Answer::Done)
+    raise(place, Entry::THREE, x.number, b);
+    Ok(Answer::Done)
 }
 
 // A correct server takes over the number of an entry at stage two, and forwards it.
 pub fn settle(roster: Roster, server: u8, place: u8, b: Boxes) -> Ruling
     ensures { result ≡ settle_of roster server place b }
 {
-    if !roster.member(server) {
-        return answer(b, Answer::BadServer);
-    }
-    if roster.is_faulty(server) {
-        return answer(b, Answer::WrongSide);
-    }
-    let e = b.hold.at(place);
-    if e.stage != Entry::TWO {
-        return answer(b, Answer::NoSuch);
-    }
-    let Some(k) = b.executions.find(e.sending.id) else {
-        return answer(b, Answer::Wait);
-    };
-    settle_to(roster, server, place, k, b)
+    ruled(b, |b| try_settle(roster, server, place, b))
 }

@@ -1,12 +1,11 @@
 -- Each public contract of this crate settles its answer. Assumes nothing.
+use Rattle.std.proofs.Common.{ℕ, Fits, w64}
 use mathlib.Core.Path.{sym, ◌∙◌}
 use Rattle.unique.specs.Unique.{Unique}
 use Rattle.schedule.proofs.fields.byte_at.Kinds as byte-at-kinds
 use Rattle.schedule.proofs.fields.byte_at.Reads as byte-at-reads
-use Rattle.schedule.proofs.fields.command_at.Kinds as command-at-kinds
-use Rattle.schedule.proofs.fields.command_at.Reads as command-at-reads
-use Rattle.schedule.proofs.fields.digest_at.Kinds as digest-at-kinds
-use Rattle.schedule.proofs.fields.digest_at.Reads as digest-at-reads
+use Rattle.schedule.proofs.fields.bytes_at.Kinds as bytes-at-kinds
+use Rattle.schedule.proofs.fields.bytes_at.Reads as bytes-at-reads
 use Rattle.schedule.proofs.kinds.form_of.Kinds as form-of-kinds
 use Rattle.schedule.proofs.kinds.form_of.Reads as form-of-reads
 use Rattle.schedule.proofs.fields.four_at.Kinds as four-at-kinds
@@ -21,11 +20,8 @@ use Rattle.schedule.proofs.fields.two_at.Reads as two-at-reads
 pub byte_at_unique : Unique 1 byte-at-kinds.ps byte-at-kinds.r byte-at-reads.Post
 byte_at_unique κs a x y e f p q = p ∙ sym q
 
-pub command_at_unique : Unique 1 command-at-kinds.ps command-at-kinds.r command-at-reads.Post
-command_at_unique κs a x y e f p q = p ∙ sym q
-
-pub digest_at_unique : Unique 1 digest-at-kinds.ps digest-at-kinds.r digest-at-reads.Post
-digest_at_unique κs a x y e f p q = p ∙ sym q
+pub bytes_at_unique : (n : ℕ) (fits : Fits w64 n) → Unique 2 (bytes-at-kinds.ps n fits) (bytes-at-kinds.r n fits) (bytes-at-reads.Post n fits)
+bytes_at_unique n fits κs a x y e f p q = p ∙ sym q
 
 pub form_of_unique : Unique 0 form-of-kinds.ps form-of-kinds.r form-of-reads.Post
 form_of_unique κs a x y e f p q = p ∙ sym q

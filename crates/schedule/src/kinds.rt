@@ -5,7 +5,7 @@ ghost use Rattle.format.specs.Records.{form_of};
 use format::{Act, Form, Kind, Schedule};
 use world::Request;
 
-// The meaning of each of the 256 kind numbers.
+// The meaning of each of the 256 kind numbers, by one match with ranges, as document 01 expects.
 #[tactic(auto, unfolding(format::specs::Records::form_of))]
 pub fn form_of(kind: u8) -> Form
     ensures { result ≡ form_of kind }

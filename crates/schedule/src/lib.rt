@@ -6,7 +6,7 @@ mod kinds;
 mod reading;
 mod scanning;
 
-pub use fields::{byte_at, command_at, digest_at, four_at, two_at};
+pub use fields::{byte_at, bytes_at, four_at, two_at};
 pub use kinds::form_of;
 pub use reading::read_at;
 pub use scanning::judge;

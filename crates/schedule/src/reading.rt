@@ -6,6 +6,7 @@ use crate::kinds::form_of;
 use format::{Form, Read, Refusal};
 
 // The record at an offset after the start, or why it is none.
+#[tactic(auto, unfolding(format::specs::Records::read_at, format::specs::Records::read_by))]
 pub fn read_at(s: &[u8], at: usize) -> Read
     ensures { result ≡ read_at s.now at }
 {

@@ -5,8 +5,8 @@ use mathlib.Core.Bool.{Bool, true, false, cond, not}
 use Prim.Native.Nat.{ℕ, zero, suc, ◌+◌, ◌-◌, ◌<◌, ◌≤◌}
 use native.Mathlib.Omega.{arith}
 use native.Mathlib.Numerals.{add-one}
+use Rattle.std.proofs.lemmas.Bool.{not-false, not-true}
 use Rattle.search.specs.Search.{first_from, first, every, count}
-use Rattle.search.proofs.Booleans.{not_out, not_no}
 
 first_here : (t : ℕ → Bool) (at n : ℕ) → t at ≡ true → first_from t at (suc n) ≡ Some at
 unfolding first_from
@@ -96,10 +96,10 @@ held_all t n k p q = ap (λ (f : Option ℕ). not (is_some f)) (passed_all _ n k
 
 -- the same turns in a loop that is left where the opposite of the test's value holds
 pub held_tested : (t : ℕ → Bool) (n k : ℕ) (b : Bool) → k < n → b ≡ t k → not b ≡ false → Held t n k → Held t n (k + 1)
-held_tested t n k b p e y q = held_more t n k p (sym e ∙ not_no b y) q
+held_tested t n k b p e y q = held_more t n k p (sym e ∙ not-false b y) q
 
 pub held_failed : (t : ℕ → Bool) (n k : ℕ) (b : Bool) → k < n → b ≡ t k → not b ≡ true → Held t n k → false ≡ every t n
-held_failed t n k b p e y q = held_not t n k p (sym e ∙ not_out b y) q
+held_failed t n k b p e y q = held_not t n k p (sym e ∙ not-true b y) q
 
 -- two tests that agree at the n places have the same count
 pub count_same : (t u : ℕ → Bool) (n : ℕ) → ((i : ℕ) → i < n → t i ≡ u i) → count t n ≡ count u n

@@ -1,5 +1,5 @@
 -- Searches and counts over places 0, 1, 2, .. by a test: what every loop over places means.
-use Rattle.std.specs.Prelude.{Bool, true, false, cond, not, ℕ, zero, suc, ◌+◌, is_some, Option, Some, None}
+use Rattle.std.specs.Prelude.{Bool, cond, not, ℕ, zero, suc, ◌+◌, is_some, Option, Some, None}
 
 -- the lowest of the n places from `at` on at which the test holds
 unfoldable pub first_from : (ℕ → Bool) → ℕ → ℕ → Option ℕ

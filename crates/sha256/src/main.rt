@@ -2,7 +2,7 @@
 #![tactic(auto)]
 
 use console::Failure;
-use fips180::Digest;
+use fips180::{Digest, DigestLong};
 use hex_text::Line;
 
 fn main(rt: HostRuntime) -> Result<(), Failure> {
@@ -11,11 +11,8 @@ fn main(rt: HostRuntime) -> Result<(), Failure> {
     }
     let mut message = [0u8; Digest::MOST + 1];
     let n = console::read(&rt, &mut message)?;
-    let d = digest::sha256(&message[..n]);
-    if d.code == Digest::LONG {
-        return console::write(&rt, b"refused 28 0\n");
+    match digest::sha256(&message[..n]) {
+        Ok(digest) => console::write(&rt, &Line::from(digest).text),
+        Err(DigestLong) => console::write(&rt, b"refused 28 0\n"),
     }
-    let digest = d.bytes;
-    let text = Line::of(digest).text;
-    console::write(&rt, &text)
 }

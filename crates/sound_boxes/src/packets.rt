@@ -2,31 +2,23 @@
 ghost use Rattle.std.specs.Prelude.{◌≡◌};
 ghost use Rattle.protocol.specs.Sound.{packet_sound, outgoing_sound};
 
-use sound_names::{names, zero_packet};
-use world::{Outgoing, Packet, Roster};
+use sound_names::{Known, zero_packet};
+use world::{Outgoing, Packet};
 
 // Whether a place is sound: a packet between servers, of a stored request, or all zeros.
-fn packet_sound(roster: Roster, stored: u8, origin: u8, p: Packet) -> bool
-    ensures { result ≡ packet_sound roster stored origin p }
+#[tactic(auto, unfolding(protocol::specs::Sound::packet_sound))]
+fn packet_sound(known: Known, origin: u8, p: Packet) -> bool
+    ensures { result ≡ packet_sound known.roster known.stored origin p }
 {
     if !p.there {
         return zero_packet(p);
     }
-    roster.member(origin) & roster.member(p.to) & names(roster, stored, p.sending)
+    known.roster.member(origin) & known.roster.member(p.to) & known.names(p.sending)
 }
 
 // Whether every outgoing place of an origin is sound.
-pub fn outgoing_sound(roster: Roster, stored: u8, origin: u8, o: Outgoing) -> bool
-    ensures { result ≡ outgoing_sound roster stored origin o }
+pub fn outgoing_sound(known: Known, origin: u8, o: &Outgoing) -> bool
+    ensures { result ≡ outgoing_sound known.roster known.stored origin o.now }
 {
-    let mut k: usize = 0;
-    loop {
-        if k == Outgoing::PLACES {
-            break true;
-        }
-        if !packet_sound(roster, stored, origin, o.places[k]) {
-            break false;
-        }
-        k += 1;
-    }
+    o.places.iter().all(|p| packet_sound(known, origin, *p))
 }

@@ -1,34 +1,25 @@
 // The executions of one sender in a sound world.
 #![tactic(auto)]
 
-ghost use Rattle.std.specs.Prelude.{◌≡◌, ℕ, ◌<◌, ◌≤◌};
+ghost use Rattle.std.specs.Prelude.{◌≡◌, ℕ, ◌≤◌};
 ghost use Rattle.search.specs.Search.{every};
 ghost use Rattle.world.specs.Executions.{execution_at};
 ghost use Rattle.world.specs.Sizes.{executions_most};
 ghost use Rattle.protocol.specs.Sound.{lies_within, masks_sound, order_sound, execution_sound, place_sound, new_id};
 ghost use Rattle.protocol.specs.Sound.{executions_sound};
 
-use sound_names::{is_correct, zero_execution};
+use sound_names::{Known, is_correct, keys_differ, used_below, zero_execution};
 use world::{Execution, Executions, Roster, has};
 
 // Whether every server of the mask has called.
 fn lies_within(mask: u8, called: u8) -> bool
     ensures { result ≡ lies_within mask called }
 {
-    let mut i: u8 = 0;
-    loop {
-        if i == Roster::MOST {
-            break true;
-        }
-        let called_too = !has(mask, i) | has(called, i);
-        if !called_too {
-            break false;
-        }
-        i += 1;
-    }
+    (0..Roster::MOST).all(|i| !has(mask, i) | has(called, i))
 }
 
 // Whether the masks have no bit at n or above, one lies within the other, and the sender is in both.
+#[tactic(auto, unfolding(protocol::specs::Sound::masks_sound))]
 fn masks_sound(roster: Roster, sender: u8, x: Execution) -> bool
     ensures { result ≡ masks_sound roster sender x }
 {
@@ -40,99 +31,60 @@ fn masks_sound(roster: Roster, sender: u8, x: Execution) -> bool
 }
 
 // Whether the execution is numbered exactly when its mask has T members, and from the numbers given.
-fn order_sound(roster: Roster, numbered: u32, x: Execution) -> bool
-    ensures { result ≡ order_sound roster numbered x }
+#[tactic(auto, unfolding(protocol::specs::Sound::order_sound))]
+fn order_sound(known: Known, x: Execution) -> bool
+    ensures { result ≡ order_sound known.roster known.numbered x }
 {
     let mask = x.mask;
-    let reached = u8::count_ones(mask) == roster.threshold();
+    let reached = u8::count_ones(mask) == known.roster.threshold();
     if x.number == Execution::UNNUMBERED {
         return !reached;
     }
-    reached & (x.number <= numbered)
+    reached & (x.number <= known.numbered)
 }
 
 // Whether the execution at place k is sound.
-fn execution_sound(roster: Roster, numbered: u32, sender: u8, k: usize, x: Execution) -> bool
-    requires { k < executions_most }
-    ensures { result ≡ execution_sound roster numbered sender k x }
+#[tactic(auto, unfolding(protocol::specs::Sound::execution_sound))]
+fn execution_sound(known: Known, sender: u8, k: usize, x: Execution) -> bool
+    ensures { result ≡ execution_sound known.roster known.numbered sender k x }
 {
-    masks_sound(roster, sender, x)
-        & order_sound(roster, numbered, x)
-        & (!is_correct(roster, sender) | (x.id as usize == k + 1))
+    masks_sound(known.roster, sender, x)
+        & order_sound(known, x)
+        & (!is_correct(known.roster, sender) | (x.id as usize == k.saturating_add(1)))
 }
 
-// Whether place k is sound, used or not.
-fn place_sound(roster: Roster, numbered: u32, sender: u8, made: u8, k: usize, x: Execution) -> bool
-    requires { k < executions_most }
-    ensures { result ≡ place_sound roster numbered sender made k x }
-{
-    if k < made as usize {
-        return execution_sound(roster, numbered, sender, k, x);
-    }
-    zero_execution(x)
-}
-
-// Whether every place is sound.
-fn places_sound(roster: Roster, numbered: u32, sender: u8, t: Executions) -> bool
+// Whether every place is sound, used or not.
+fn places_sound(known: Known, sender: u8, t: &Executions) -> bool
     ensures { result ≡
-        every (λ (k : ℕ). place_sound roster numbered sender t.count k (execution_at t k)) executions_most }
+        every
+        (λ (k : ℕ). place_sound known.roster known.numbered sender t.now.count k (execution_at t.now k))
+        executions_most }
 {
-    let mut k: usize = 0;
-    loop {
-        if k == Executions::MOST {
-            break true;
-        }
-        if !place_sound(roster, numbered, sender, t.count, k, t.table[k]) {
-            break false;
-        }
-        k += 1;
-    }
+    let made = t.count as usize;
+    used_below(
+        &t.table,
+        made,
+        |k, x| execution_sound(known, sender, k, *x),
+        |x| zero_execution(*x),
+    )
 }
 
-// Whether no earlier place has the id of place k.
-fn new_id(t: Executions, k: usize) -> bool
-    requires { k < executions_most }
-    ensures { result ≡ new_id t k }
+// Whether the ids of the executions differ.
+fn ids_differ(t: &Executions) -> bool
+    requires { t.now.count ≤ executions_most }
+    ensures { result ≡ every (λ (k : ℕ). new_id t.now k) t.now.count }
 {
-    let id = t.table[k].id;
-    let mut j: usize = 0;
-    loop {
-        if j == k {
-            break true;
-        }
-        if t.table[j].id == id {
-            break false;
-        }
-        j += 1;
-    }
-}
-
-// Whether the keys of the executions differ.
-fn keys_differ(t: Executions) -> bool
-    requires { t.count ≤ executions_most }
-    ensures { result ≡ every (λ (k : ℕ). new_id t k) t.count }
-{
-    let count = t.count as usize;
-    let mut k: usize = 0;
-    loop {
-        if k == count {
-            break true;
-        }
-        if !new_id(t, k) {
-            break false;
-        }
-        k += 1;
-    }
+    let (used, _) = t.table.split_at(t.count as usize);
+    keys_differ(used, |a, b| a.id == b.id)
 }
 
 // Whether the executions of a sender are sound.
-pub fn executions_sound(roster: Roster, numbered: u32, sender: u8, t: Executions) -> bool
-    ensures { result ≡ executions_sound roster numbered sender t }
+#[tactic(auto, unfolding(protocol::specs::Sound::executions_sound))]
+pub fn executions_sound(known: Known, sender: u8, t: &Executions) -> bool
+    ensures { result ≡ executions_sound known.roster known.numbered sender t.now }
 {
     if Executions::MOST < t.count as usize {
         return false;
     }
-    (roster.member(sender) | (t.count == 0))
-        & places_sound(roster, numbered, sender, t)
-        & keys_differ(t)
+    (known.roster.member(sender) | (t.count == 0)) & places_sound(known, sender, t) & ids_differ(t)
 }

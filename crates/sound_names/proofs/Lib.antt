@@ -1,2 +1,4 @@
+pub mod Places
 pub mod Typed
 pub mod Unique
+pub mod ZeroLists

@@ -2,15 +2,25 @@
 ghost use Rattle.std.specs.Prelude.{◌≡◌, is_some};
 ghost use Rattle.world.specs.Boxes.{seat};
 ghost use Rattle.world.specs.Roster.{correct};
-ghost use Rattle.protocol.specs.Names.{names, own_execution};
+ghost use Rattle.protocol.specs.Names.{names, table_of, own_execution};
 
-use world::{Executions, Roster, Sending};
+use world::{Executions, Roster, Sending, World};
 
-// Whether the sender is a server and the slot that of a stored request.
-pub fn names(roster: Roster, stored: u8, sending: Sending) -> bool
-    ensures { result ≡ names roster stored sending }
-{
-    roster.member(sending.sender) & (sending.slot < stored)
+// What a world knows when a sending is tested: its servers, how many requests are stored, the numbers given.
+#[derive(Clone, Copy)]
+pub struct Known {
+    pub roster: Roster,
+    pub stored: u8,
+    pub numbered: u32,
+}
+
+impl Known {
+    // Whether the sender is a server and the slot that of a stored request.
+    pub fn names(self, sending: Sending) -> bool
+        ensures { result ≡ names self.roster self.stored sending }
+    {
+        self.roster.member(sending.sender) & (sending.slot < self.stored)
+    }
 }
 
 // Whether a server takes part and is not faulty.
@@ -30,9 +40,16 @@ pub fn seat(server: u8) -> usize
     0
 }
 
+// The executions of a sender.
+pub fn table_of(tables: &[Executions; World::SERVERS], sender: u8) -> &Executions
+    ensures { result.now ≡ table_of tables.now sender }
+{
+    &tables[seat(sender)]
+}
+
 // The execution of a sending, among its sender's.
-pub fn own_execution(t: Executions, sending: Sending) -> Option<usize>
-    ensures { result ≡ own_execution t sending }
+pub fn own_execution(t: &Executions, sending: Sending) -> Option<usize>
+    ensures { result ≡ own_execution t.now sending }
 {
     if sending.sender < Roster::MOST {
         return t.find(sending.id);
@@ -41,11 +58,8 @@ pub fn own_execution(t: Executions, sending: Sending) -> Option<usize>
 }
 
 // Whether there is such an execution.
-pub fn has_execution(t: Executions, sending: Sending) -> bool
-    ensures { result ≡ is_some (own_execution t sending) }
+pub fn has_execution(t: &Executions, sending: Sending) -> bool
+    ensures { result ≡ is_some (own_execution t.now sending) }
 {
-    let Some(_) = own_execution(t, sending) else {
-        return false;
-    };
-    true
+    own_execution(t, sending).is_some()
 }

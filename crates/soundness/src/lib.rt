@@ -9,14 +9,12 @@ mod servers;
 use world::World;
 
 // Whether a world is sound: only such a world takes a step.
+#[tactic(auto, unfolding(protocol::specs::Sound::sound))]
 pub fn sound(w: World) -> bool
     ensures { result ≡ sound w }
 {
-    let roster = w.roster;
-    let requests = w.requests;
-    let tables = w.executions;
-    roster.is_good()
-        & sound_requests::requests_sound(roster, requests)
-        & sound_numbers::numbers_sound(tables, w.numbered)
-        & servers::servers_sound(w)
+    w.roster.is_good()
+        & sound_requests::requests_sound(w.roster, &w.requests)
+        & sound_numbers::numbers_sound(&w.executions, w.numbered)
+        & servers::servers_sound(&w)
 }

@@ -1,59 +1,55 @@
-// The first line and those of the steps, each written at a place of the lent buffer. Each function answers the place
-// after its lines.
+// The first line and those of the steps, each written to a text.
 #![tactic(auto)]
 
-ghost use Rattle.std.specs.Prelude.{◌+◌, ◌*◌, ◌^◌, ◌≤◌, ◌<◌, length, take};
-ghost use Rattle.writing.specs.Writing.{Wrote};
+ghost use Rattle.std.specs.Prelude.{◌+◌, ◌*◌, ◌^◌, ◌≤◌, ◌<◌, length};
+ghost use Rattle.writing.specs.Writing.{Writes};
 ghost use Rattle.protocol.specs.Longest.{world_most, step_most, listing_most};
 ghost use Rattle.protocol.specs.Listing.{world_line, step_line, step_lines};
 
 use world::Roster;
-use writing::{put_byte, put_number, put_word};
+use writing::Text;
 
-// `world N F T RECORDS`, the first line.
-pub fn put_world(text: &mut [u8], roster: Roster, records: usize) -> usize
+// `world N F T RECORDS`, the first line: with it a text begins.
+pub fn put_world<'a>(bytes: &'a mut [u8], roster: Roster, records: usize) -> Text<'a>
     requires { records < 10 ^ 5 }
-    ensures wrote { Wrote text.old 0 (world_line roster records) text.new result }
-    ensures upper_bound { result ≤ world_most }
+    ensures wrote { Writes (record { bytes = bytes.entry; at = 0 }) (world_line roster records) result }
+    ensures upper_bound { result.at ≤ world_most }
 {
-    let at = put_word(text, 0, b"world ");
-    let at = put_number(text, at, roster.n as usize);
-    let at = put_byte(text, at, b' ');
-    let at = put_number(text, at, roster.faults() as usize);
-    let at = put_byte(text, at, b' ');
-    let at = put_number(text, at, roster.threshold() as usize);
-    let at = put_byte(text, at, b' ');
-    let at = put_number(text, at, records);
-    put_byte(text, at, b'\n')
+    let mut text = Text { bytes, at: 0 };
+    text.word(b"world ");
+    text.number(roster.n);
+    text.byte(b' ');
+    text.number(roster.faults());
+    text.byte(b' ');
+    text.number(roster.threshold());
+    text.byte(b' ');
+    text.number(records);
+    text.byte(b'\n');
+    text
 }
 
 // `step K ANSWER`
-fn put_step(text: &mut [u8], at: usize, k: usize, answer: u8) -> usize
-    requires at_le_listing_most { at ≤ listing_most }
+fn put_step(text: &mut Text<'_>, k: usize, answer: u8)
+    requires at_le_listing_most { text.old.at ≤ listing_most }
     requires k_bound { k < 10 ^ 5 }
-    ensures wrote { Wrote text.old at (step_line k answer) text.new result }
-    ensures upper_bound { result ≤ at + step_most }
+    ensures wrote { Writes text.old (step_line k answer) text.new }
+    ensures upper_bound { text.new.at ≤ text.old.at + step_most }
 {
-    let at = put_word(text, at, b"step ");
-    let at = put_number(text, at, k);
-    let at = put_byte(text, at, b' ');
-    let at = put_number(text, at, answer as usize);
-    put_byte(text, at, b'\n')
+    text.word(b"step ");
+    text.number(k);
+    text.byte(b' ');
+    text.number(answer);
+    text.byte(b'\n');
 }
 
 // The lines of all steps, K from 1.
-pub fn put_steps(text: &mut [u8], at: usize, answers: &[u8], records: usize) -> usize
-    requires step_most_bound { at + records * step_most ≤ listing_most }
-    requires records_in_bounds { records ≤ length answers.now }
-    ensures wrote { Wrote text.old at (step_lines 1 (take records answers.now)) text.new result }
-    ensures upper_bound { result ≤ at + records * step_most }
+#[tactic(auto, unfolding(protocol::specs::Listing::step_lines))]
+pub fn put_steps(text: &mut Text<'_>, answers: &[u8])
+    requires { text.old.at + length answers.now * step_most ≤ listing_most }
+    ensures wrote { Writes text.old (step_lines 1 answers.now) text.new }
+    ensures upper_bound { text.new.at ≤ text.old.at + length answers.now * step_most }
 {
-    let mut end = at;
-    let mut i: usize = 0;
-    while i < records {
-        let k = i + 1;
-        end = put_step(text, end, k, answers[i]);
-        i += 1;
+    for (i, answer) in answers.iter().enumerate() {
+        put_step(text, i + 1, *answer);
     }
-    end
 }

@@ -3,13 +3,15 @@
 // digests.
 #![tactic(auto)]
 
-ghost use Rattle.std.specs.Prelude.{◌<◌};
+ghost use Rattle.std.specs.Prelude.{◌<◌, ◌≤◌, length};
+ghost use Rattle.fips180.specs.Digest.{message_most};
 
 use console::Failure;
 use fips180::Digest;
 use hex_text::Line;
 
 // The value of a lower-case hex digit; of any other character, some number below 16.
+// By hand: the library `hex` refuses such a character, and this program never did.
 fn value(c: u8) -> u8
     ensures { result < 16 }
 {
@@ -21,10 +23,12 @@ fn value(c: u8) -> u8
 }
 
 // Writes the digest of a message.
-fn show<R: Print>(rt: &R, message: &[u8]) -> Result<(), Failure> {
-    let digest = digest::sha256(message).bytes;
-    let text = Line::of(digest).text;
-    console::write(rt, &text)
+#[tactic(auto, using(digest::proofs::Short::short_ok))]
+fn show<R: Print>(rt: &R, message: &[u8]) -> Result<(), Failure>
+    requires { length message.now ≤ message_most }
+{
+    let digest = digest::sha256(message).unwrap();
+    console::write(rt, &Line::from(digest).text)
 }
 
 fn main(rt: HostRuntime) -> Result<(), Failure> {
@@ -35,11 +39,8 @@ fn main(rt: HostRuntime) -> Result<(), Failure> {
     let n = console::read(&rt, &mut lines)?;
     let mut message = [0u8; Digest::MOST];
     let mut digits: usize = 0;
-    let mut i: usize = 0;
-    while i < n {
-        let c = lines[i];
+    for &c in &lines[..n] {
         let at = digits / 2;
-        i += 1;
         if c == b'\n' {
             show(&rt, &message[..at])?;
             digits = 0;

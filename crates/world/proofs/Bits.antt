@@ -3,7 +3,8 @@ use Rattle.std.proofs.Common.{◌≡◌, ℕ, zero, suc, ◌+◌, ◌*◌, ◌/�
 use native.Mathlib.Nat.{div-div-eq-div-mul, pow-succ', div-eq_of_lt}
 use lib.Bits.{bit_and, bit_or, and_mask, or_step, or_zero_r}
 use lib.Pow.{pow-lt}
-use Rattle.search.proofs.Booleans.{either, same?}
+use Rattle.std.proofs.lemmas.Bool.{cases_eq}
+use Rattle.search.proofs.Booleans.{either}
 use Rattle.world.specs.Sizes.{servers}
 use Rattle.world.specs.Masks.{has, join}
 
@@ -71,10 +72,10 @@ join_other m i j h d = rw (lt-ltb i servers h) (or_other i m j d)
 
 -- a server of the mask with i is i, or was there
 pub join_back : (m i j : ℕ) → i < servers → has (join m i) j ≡ true → (j ≡ i) ⊎ (has m j ≡ true)
-join_back m i j h e = either (same? j i) (λ k. inl k) (λ k. inr (sym (join_other m i j h k) ∙ e))
+join_back m i j h e = either (cases_eq j i) (λ k. inl k) (λ k. inr (sym (join_other m i j h k) ∙ e))
 
 pub join_keeps : (m i j : ℕ) → i < servers → has m j ≡ true → has (join m i) j ≡ true
-join_keeps m i j h e = either (same? j i) (λ (k : j ≡ i). rw k (join_same m i h)) (λ (k : j ≢ i). join_other m i j h k ∙ e)
+join_keeps m i j h e = either (cases_eq j i) (λ (k : j ≡ i). rw k (join_same m i h)) (λ (k : j ≢ i). join_other m i j h k ∙ e)
 
 pub nobody_has : (j : ℕ) → has 0 j ≡ false
 nobody_has zero = has_zero 0

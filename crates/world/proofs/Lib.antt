@@ -2,5 +2,4 @@ pub mod Bits
 pub mod Typed
 pub mod Seats
 pub mod Sends
-pub mod Bytes
 pub mod Unique

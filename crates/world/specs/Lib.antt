@@ -5,6 +5,7 @@ pub mod Requests
 pub mod Executions
 pub mod Sending
 pub mod Outgoing
+pub mod Places
 pub mod Hold
 pub mod Delivered
 pub mod Fresh

@@ -3,9 +3,11 @@ ghost use Rattle.std.specs.Prelude.{◌≡◌};
 ghost use Rattle.world.specs.Delivered.{fresh_delivered, next_of, appended};
 
 use crate::execution::Executions;
+use crate::place::put;
 use crate::roster::Roster;
 use crate::sending::Sending;
 
+// An array with its count beside it: C lays it out, and there is no heap.
 #[repr(C)]
 #[derive(Clone, Copy)]
 pub struct Delivered {
@@ -18,6 +20,7 @@ impl Delivered {
     pub const MOST: usize = Roster::MOST as usize * Executions::MOST;
 
     // Nothing delivered yet.
+    #[tactic(auto, unfolding(crate::specs::Delivered::fresh_delivered))]
     pub fn fresh() -> Delivered
         ensures { result ≡ fresh_delivered }
     {
@@ -31,21 +34,16 @@ impl Delivered {
     pub fn next(self) -> u32
         ensures { result ≡ next_of self }
     {
-        std::num::wrapping_add_u32(self.count, 1)
+        self.count.wrapping_add(1)
     }
 
     // One more item.
     pub fn append(self, item: Sending) -> Delivered
         ensures { result ≡ appended self item }
     {
-        let k = self.count as usize;
-        let next = self.next();
         let mut d = self;
-        d.count = next;
-        if Delivered::MOST <= k {
-            return d;
-        }
-        d.items[k] = item;
+        d.count = self.next();
+        put(&mut d.items, self.count as usize, item);
         d
     }
 }

@@ -7,9 +7,9 @@ use crate::roster::Roster;
 use fips180::Digest;
 
 #[repr(C)]
-#[derive(Clone, Copy)]
+#[derive(Clone, Copy, PartialEq, Eq)]
 pub struct Execution {
-    // 0 until it is numbered.
+    // 0 until it is numbered: no Option, since C lays it out.
     pub number: u32,
     pub id: u16,
     // The servers that have called, and those of them that proposed while it was unnumbered.
@@ -18,6 +18,7 @@ pub struct Execution {
     pub digest: [u8; Digest::BYTES],
 }
 
+// An array with its count beside it: C lays it out, and there is no heap.
 #[repr(C)]
 #[derive(Clone, Copy)]
 pub struct Executions {
@@ -66,54 +67,34 @@ impl Execution {
     pub fn call(self, server: u8) -> Execution
         ensures { result ≡ called self server }
     {
-        let digest = self.digest;
-        let calls = join(self.called, server);
-        if self.number != Execution::UNNUMBERED {
-            return Execution {
-                number: self.number,
-                id: self.id,
-                called: calls,
-                mask: self.mask,
-                digest,
-            };
-        }
+        let called = join(self.called, server);
+        let mask = if self.number == Execution::UNNUMBERED {
+            join(self.mask, server)
+        } else {
+            self.mask
+        };
         Execution {
-            number: self.number,
-            id: self.id,
-            called: calls,
-            mask: join(self.mask, server),
-            digest,
+            called,
+            mask,
+            ..self
         }
     }
 
     // When an unnumbered execution's mask has T members, it gets the next number.
+    #[tactic(auto, unfolding(crate::specs::Executions::ordered))]
     pub fn order(self, roster: Roster, numbered: u32) -> Ordered
         ensures { result ≡ ordered roster self numbered }
     {
-        if self.number != Execution::UNNUMBERED {
+        if (self.number == Execution::UNNUMBERED) & (self.mask.count_ones() == roster.threshold()) {
+            let number = numbered.wrapping_add(1);
             return Ordered {
-                execution: self,
-                numbered,
+                execution: Execution { number, ..self },
+                numbered: number,
             };
         }
-        let mask = self.mask;
-        if u8::count_ones(mask) != roster.threshold() {
-            return Ordered {
-                execution: self,
-                numbered,
-            };
-        }
-        let next = std::num::wrapping_add_u32(numbered, 1);
-        let digest = self.digest;
         Ordered {
-            execution: Execution {
-                number: next,
-                id: self.id,
-                called: self.called,
-                mask,
-                digest,
-            },
-            numbered: next,
+            execution: self,
+            numbered,
         }
     }
 }
@@ -122,6 +103,7 @@ impl Executions {
     pub const MOST: usize = 16;
 
     // No execution yet.
+    #[tactic(auto, unfolding(crate::specs::Executions::fresh_executions))]
     pub fn fresh() -> Executions
         ensures { result ≡ fresh_executions }
     {
@@ -135,16 +117,9 @@ impl Executions {
     pub fn find(self, id: u16) -> Option<usize>
         ensures { result ≡ execution_of self id }
     {
-        let count = self.count as usize;
-        let mut k: usize = 0;
-        loop {
-            if k == Executions::MOST {
-                break None;
-            }
-            if (k < count) & (self.table[k].id == id) {
-                break Some(k);
-            }
-            k += 1;
-        }
+        self.table
+            .iter()
+            .take(self.count as usize)
+            .position(|x| x.id == id)
     }
 }

@@ -1,17 +1,18 @@
 // The entries that one server holds, each at a stage.
-ghost use Rattle.std.specs.Prelude.{◌≡◌, is_some};
+ghost use Rattle.std.specs.Prelude.{◌≡◌, refl, nat_eq, is_some};
 ghost use Rattle.world.specs.Hold.{entry_of, free_entry, fresh_hold, entry_at, is_entry, holding, is_ready, ready_place};
 ghost use Rattle.world.specs.Hold.{free_hold, entry_added, entry_put};
 
+use crate::place::{Place, fill, lowest_free, put};
 use crate::sending::Sending;
 
 #[repr(C)]
-#[derive(Clone, Copy)]
+#[derive(Clone, Copy, PartialEq, Eq)]
 pub struct Entry {
-    // 0 until stage three.
+    // 0 until stage three: no Option, since C lays it out.
     pub number: u32,
     pub sending: Sending,
-    // 0 at a free place.
+    // 0 at a free place: a number and no enum, since C may give any byte.
     pub stage: u8,
 }
 
@@ -52,10 +53,7 @@ impl Entry {
     pub fn is_of(self, sending: Sending) -> bool
         ensures { result ≡ is_entry self sending }
     {
-        (self.stage != Entry::FREE)
-            & (self.sending.sender == sending.sender)
-            & (self.sending.id == sending.id)
-            & (self.sending.slot == sending.slot)
+        (self.stage != Entry::FREE) & (self.sending == sending)
     }
 
     // Whether it is at stage three with this number.
@@ -66,10 +64,24 @@ impl Entry {
     }
 }
 
+impl Place for Entry {
+    ghost nothing = { free_entry };
+
+    ghost vacant = { λ e. nat_eq e.stage 0 };
+
+    // Free at no stage.
+    fn is_free(self) -> bool {
+        self.stage == Entry::FREE
+    }
+
+    ghost nothing_is_vacant = { refl };
+}
+
 impl Hold {
     pub const PLACES: usize = 64;
 
     // Every place free.
+    #[tactic(auto, unfolding(crate::specs::Hold::fresh_hold))]
     pub fn fresh() -> Hold
         ensures { result ≡ fresh_hold }
     {
@@ -82,80 +94,47 @@ impl Hold {
     pub fn at(self, place: u8) -> Entry
         ensures { result ≡ entry_at self place }
     {
-        let k = place as usize;
-        if Hold::PLACES <= k {
-            return Entry::free();
-        }
-        self.places[k]
+        self.places
+            .get(place as usize)
+            .copied()
+            .unwrap_or(Entry::free())
     }
 
     // Whether an entry of this sending is held.
     pub fn holds(self, sending: Sending) -> bool
         ensures { result ≡ holding self sending }
     {
-        let mut k: usize = 0;
-        loop {
-            if k == Hold::PLACES {
-                break false;
-            }
-            if self.places[k].is_of(sending) {
-                break true;
-            }
-            k += 1;
-        }
+        self.places.iter().any(|e| e.is_of(sending))
     }
 
     // The lowest place with an entry at stage three that has this number.
     pub fn ready(self, number: u32) -> Option<usize>
         ensures { result ≡ ready_place self number }
     {
-        let mut k: usize = 0;
-        loop {
-            if k == Hold::PLACES {
-                break None;
-            }
-            if self.places[k].is_ready(number) {
-                break Some(k);
-            }
-            k += 1;
-        }
+        self.places.iter().position(|e| e.is_ready(number))
     }
 
     // The lowest free place.
     pub fn free(self) -> Option<usize>
         ensures { result ≡ free_hold self }
     {
-        let mut k: usize = 0;
-        loop {
-            if k == Hold::PLACES {
-                break None;
-            }
-            if self.places[k].stage == Entry::FREE {
-                break Some(k);
-            }
-            k += 1;
-        }
+        lowest_free(&self.places)
     }
 
     // Whether a place is free.
     pub fn has_room(self) -> bool
         ensures { result ≡ is_some (free_hold self) }
     {
-        let Some(_) = self.free() else {
-            return false;
-        };
-        true
+        self.free().is_some()
     }
 
     // The entry at the lowest free place; where there is none, the hold as it was.
+    #[tactic(auto, unfolding(crate::specs::Hold::entry_added, crate::specs::Hold::entry_added_at, crate::specs::Places::put_at))]
     pub fn keep(self, entry: Entry) -> Hold
         ensures { result ≡ entry_added self entry }
     {
-        let Some(k) = self.free() else {
-            return self;
-        };
         let mut h = self;
-        h.places[k] = entry;
+        fill(&mut h.places, entry);
         h
     }
 
@@ -163,11 +142,8 @@ impl Hold {
     pub fn put(self, place: usize, entry: Entry) -> Hold
         ensures { result ≡ entry_put self place entry }
     {
-        if Hold::PLACES <= place {
-            return self;
-        }
         let mut h = self;
-        h.places[place] = entry;
+        put(&mut h.places, place, entry);
         h
     }
 }

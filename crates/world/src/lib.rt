@@ -12,8 +12,10 @@ mod execution;
 mod hold;
 mod mask;
 mod outgoing;
+mod place;
 mod request;
 mod roster;
+mod seating;
 mod sending;
 
 pub use delivered::Delivered;
@@ -23,6 +25,7 @@ pub use mask::{has, join};
 pub use outgoing::{Outgoing, Packet, recipients};
 pub use request::{Request, Requests, same_digest};
 pub use roster::Roster;
+pub use seating::within;
 pub use sending::Sending;
 
 #[repr(C)]
@@ -45,6 +48,7 @@ impl World {
     pub const SERVERS: usize = Roster::MOST as usize;
 
     // The world of n servers, the faulty ones given by their mask, before the first step.
+    #[tactic(auto, unfolding(crate::specs::Fresh::fresh_world))]
     pub fn fresh(n: u8, faulty: u8) -> World
         ensures { result ≡ fresh_world n faulty }
     {

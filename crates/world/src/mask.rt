@@ -5,6 +5,7 @@ ghost use Rattle.world.specs.Masks.{has, join};
 use crate::roster::Roster;
 
 // Whether a server is in the mask.
+#[tactic(auto, using(crate::proofs::Bits::has_past, crate::proofs::Bits::has_bit))]
 pub fn has(mask: u8, server: u8) -> bool
     ensures { result ≡ has mask server }
 {
@@ -15,6 +16,7 @@ pub fn has(mask: u8, server: u8) -> bool
 }
 
 // The mask with a server in it.
+#[tactic(auto, using(crate::proofs::Bits::join_past, crate::proofs::Bits::join_bit))]
 pub fn join(mask: u8, server: u8) -> u8
     ensures { result ≡ join mask server }
 {

@@ -1,17 +1,18 @@
 // The packets that one server has sent and that have not arrived.
-ghost use Rattle.std.specs.Prelude.{◌≡◌, if◌then◌else◌};
+ghost use Rattle.std.specs.Prelude.{◌≡◌, refl, not};
 ghost use Rattle.world.specs.Outgoing.{free_packet, packet_for, fresh_outgoing, packet_at, free_outgoing, free_places};
 ghost use Rattle.world.specs.Outgoing.{packet_added, packet_freed, sent, needed, recipient};
 
 use crate::mask::has;
+use crate::place::{Place, fill, lowest_free, put};
 use crate::roster::Roster;
 use crate::sending::Sending;
 
 #[repr(C)]
-#[derive(Clone, Copy)]
+#[derive(Clone, Copy, PartialEq, Eq)]
 pub struct Packet {
     pub sending: Sending,
-    // Whether there is a packet at the place.
+    // Whether there is a packet at the place: no Option, since C lays it out.
     pub there: bool,
     pub to: u8,
 }
@@ -46,10 +47,24 @@ impl Packet {
     }
 }
 
+impl Place for Packet {
+    ghost nothing = { free_packet };
+
+    ghost vacant = { λ p. not p.there };
+
+    // Free where there is no packet.
+    fn is_free(self) -> bool {
+        !self.there
+    }
+
+    ghost nothing_is_vacant = { refl };
+}
+
 impl Outgoing {
     pub const PLACES: usize = 64;
 
     // Every place free.
+    #[tactic(auto, unfolding(crate::specs::Outgoing::fresh_outgoing))]
     pub fn fresh() -> Outgoing
         ensures { result ≡ fresh_outgoing }
     {
@@ -62,53 +77,33 @@ impl Outgoing {
     pub fn at(self, place: u8) -> Packet
         ensures { result ≡ packet_at self place }
     {
-        let k = place as usize;
-        if Outgoing::PLACES <= k {
-            return Packet::free();
-        }
-        self.places[k]
+        self.places
+            .get(place as usize)
+            .copied()
+            .unwrap_or(Packet::free())
     }
 
     // The lowest free place.
     pub fn free(self) -> Option<usize>
         ensures { result ≡ free_outgoing self }
     {
-        let mut place: usize = 0;
-        loop {
-            if place == Outgoing::PLACES {
-                break None;
-            }
-            if !self.places[place].there {
-                break Some(place);
-            }
-            place += 1;
-        }
+        lowest_free(&self.places)
     }
 
     // How many places are free.
     pub fn room(self) -> usize
         ensures { result ≡ free_places self }
     {
-        let mut free: usize = 0;
-        let mut k: usize = 0;
-        while k < Outgoing::PLACES {
-            if !self.places[k].there {
-                free += 1;
-            }
-            k += 1;
-        }
-        free
+        self.places.iter().filter(|p| p.is_free()).count()
     }
 
     // The packet at the lowest free place; where there is none, the packets as they were.
+    #[tactic(auto, unfolding(crate::specs::Outgoing::packet_added, crate::specs::Outgoing::packet_added_at, crate::specs::Places::put_at))]
     pub fn post(self, packet: Packet) -> Outgoing
         ensures { result ≡ packet_added self packet }
     {
-        let Some(k) = self.free() else {
-            return self;
-        };
         let mut o = self;
-        o.places[k] = packet;
+        fill(&mut o.places, packet);
         o
     }
 
@@ -116,40 +111,28 @@ impl Outgoing {
     pub fn clear(self, place: u8) -> Outgoing
         ensures { result ≡ packet_freed self place }
     {
-        let k = place as usize;
-        if Outgoing::PLACES <= k {
-            return self;
-        }
         let mut o = self;
-        o.places[k] = Packet::free();
+        put(&mut o.places, place as usize, Packet::free());
         o
     }
 
-    // A packet to one server, where it is a recipient.
-    fn send_to(self, roster: Roster, mask: u8, server: u8, to: u8, sending: Sending) -> Outgoing
-        ensures { result ≡ (if recipient roster mask server to then packet_added self (packet_for to sending) else self) }
-    {
-        if !is_recipient(roster, mask, server, to) {
-            return self;
-        }
-        self.post(Packet::new(to, sending))
-    }
-
     // A packet to each server outside the mask, the sending one excepted, ascending.
+    #[tactic(auto, using(crate::proofs::Sends::sent_more), unfolding(crate::specs::Outgoing::sent_below))]
     pub fn send(self, roster: Roster, mask: u8, server: u8, sending: Sending) -> Outgoing
         ensures { result ≡ sent roster mask server sending self }
     {
         let mut o = self;
-        let mut to: u8 = 0;
-        while to < Roster::MOST {
-            o = o.send_to(roster, mask, server, to, sending);
-            to += 1;
+        for to in 0..Roster::MOST {
+            if is_recipient(roster, mask, server, to) {
+                o = o.post(Packet::new(to, sending));
+            }
         }
         o
     }
 }
 
-// Whether a server is outside the mask, and another than the sending one.
+// Whether a server is outside the mask, and another than the sending one. The roster, the mask and the server stay
+// three parameters, as `recipient`, `needed` and `sent` have them: each caller would make a struct of them anew.
 fn is_recipient(roster: Roster, mask: u8, server: u8, to: u8) -> bool
     ensures { result ≡ recipient roster mask server to }
 {
@@ -160,13 +143,7 @@ fn is_recipient(roster: Roster, mask: u8, server: u8, to: u8) -> bool
 pub fn recipients(roster: Roster, mask: u8, server: u8) -> usize
     ensures { result ≡ needed roster mask server }
 {
-    let mut n: usize = 0;
-    let mut to: u8 = 0;
-    while to < Roster::MOST {
-        if is_recipient(roster, mask, server, to) {
-            n += 1;
-        }
-        to += 1;
-    }
-    n
+    (0..Roster::MOST)
+        .filter(|to| is_recipient(roster, mask, server, *to))
+        .count()
 }

@@ -5,7 +5,7 @@ ghost use Rattle.world.specs.Requests.{unused_request, fresh_requests, request_b
 use fips180::Digest;
 
 #[repr(C)]
-#[derive(Clone, Copy)]
+#[derive(Clone, Copy, PartialEq, Eq)]
 pub struct Request {
     // The client's own number for it.
     pub serial: u32,
@@ -16,6 +16,7 @@ pub struct Request {
     pub digest: [u8; Digest::BYTES],
 }
 
+// An array with its count beside it: C lays it out, and there is no heap.
 #[repr(C)]
 #[derive(Clone, Copy)]
 pub struct Requests {
@@ -49,26 +50,19 @@ impl Request {
     pub fn has_digest(self, digest: [u8; Digest::BYTES]) -> bool
         ensures { result ≡ same_digest self.digest digest }
     {
-        let own = self.digest;
-        same_digest(own, digest)
+        same_digest(self.digest, digest)
     }
 
     // The bytes of its record, whose digest is the request's.
+    #[tactic(auto, unfolding(crate::specs::Requests::request_bytes))]
     pub fn bytes(self) -> [u8; Request::BYTES]
         ensures { result ≡ request_bytes self }
     {
         let mut b = [0u8; Request::BYTES];
         b[0] = self.client;
-        b[1] = ((self.serial >> 24) % 256) as u8;
-        b[2] = ((self.serial >> 16) % 256) as u8;
-        b[3] = ((self.serial >> 8) % 256) as u8;
-        b[4] = (self.serial % 256) as u8;
+        b[1..5].copy_from_slice(&self.serial.to_be_bytes());
         b[5] = self.seals;
-        let mut i: usize = 0;
-        while i < Request::COMMAND {
-            b[Request::HEAD + i] = self.command[i];
-            i += 1;
-        }
+        b[Request::HEAD..].copy_from_slice(&self.command);
         b
     }
 }
@@ -77,6 +71,7 @@ impl Requests {
     pub const MOST: usize = 128;
 
     // No request stored yet.
+    #[tactic(auto, unfolding(crate::specs::Requests::fresh_requests))]
     pub fn fresh() -> Requests
         ensures { result ≡ fresh_requests }
     {
@@ -90,17 +85,10 @@ impl Requests {
     pub fn knows(self, digest: [u8; Digest::BYTES]) -> bool
         ensures { result ≡ known_digest self digest }
     {
-        let count = self.count as usize;
-        let mut k: usize = 0;
-        loop {
-            if k == Requests::MOST {
-                break false;
-            }
-            if (k < count) & self.slots[k].has_digest(digest) {
-                break true;
-            }
-            k += 1;
-        }
+        self.slots
+            .iter()
+            .take(self.count as usize)
+            .any(|r| r.has_digest(digest))
     }
 }
 
@@ -108,14 +96,5 @@ impl Requests {
 pub fn same_digest(a: [u8; Digest::BYTES], b: [u8; Digest::BYTES]) -> bool
     ensures { result ≡ same_digest a b }
 {
-    let mut k: usize = 0;
-    loop {
-        if k == Digest::BYTES {
-            break true;
-        }
-        if a[k] != b[k] {
-            break false;
-        }
-        k += 1;
-    }
+    a == b
 }

@@ -32,26 +32,14 @@ impl Roster {
     pub fn strays(self, mask: u8) -> bool
         ensures { result ≡ strays self mask }
     {
-        let mut i: u8 = 0;
-        loop {
-            if i == Roster::MOST {
-                break false;
-            }
-            if has(mask, i) & !self.member(i) {
-                break true;
-            }
-            i += 1;
-        }
+        (0..Roster::MOST).any(|i| has(mask, i) & !self.member(i))
     }
 
     // f, the most servers that may be faulty.
     pub fn faults(self) -> u8
         ensures { result ≡ faults self }
     {
-        if self.n == 0 {
-            return 0;
-        }
-        (self.n - 1) / 2
+        self.n.saturating_sub(1) / 2
     }
 
     // T, the proposals that give a number.
@@ -65,10 +53,9 @@ impl Roster {
     pub fn is_good(self) -> bool
         ensures { result ≡ good_roster self }
     {
-        let faulty = self.faulty;
         (1 <= self.n)
             & (self.n <= Roster::MOST)
-            & !self.strays(faulty)
-            & (u8::count_ones(faulty) <= self.faults() as u32)
+            & !self.strays(self.faulty)
+            & (self.faulty.count_ones() <= self.faults() as u32)
     }
 }

@@ -1,56 +1,41 @@
 -- Texts written one after the other. Assumes nothing.
-use mathlib.Core.Path.{◌≡◌, refl, sym, ◌∙◌}
-use mathlib.Core.List.{List, [], ◌∷◌, ◌++◌}
-use Prim.Native.Nat.{ℕ, suc, ◌+◌, ◌≤◌, ◌<◌}
-use native.Mathlib.Omega.{arith}
-use native.Mathlib.Numerals.{add-one}
-use lib.ListN.{length, get_or, take, set, length-append}
-use lib.Seq.{sets, set_out, length-sets, take-suc, take_all, length-take-le}
-use Rattle.writing.specs.Writing.{Wrote}
+use Rattle.std.proofs.Common.{◌≡◌, sym, ◌∙◌, arith, ℕ, suc, ◌+◌, ◌<◌, List, [], ◌∷◌, ◌++◌, length, get_or, take, length-append}
+use Rattle.std.proofs.lemmas.List.Edits.{sets}
+use lib.Seq.{length-sets}
+use Rattle.std.proofs.lemmas.List.{take_more, length-take-le}
+use Rattle.writing.specs.declared.Text.{Text}
+use Rattle.writing.specs.Writing.{Wrote, Writes}
 
 sets_append : (l : List ℕ) (i : ℕ) (a b : List ℕ) → sets (sets l i a) (i + length a) b ≡ sets l i (a ++ b)
 sets_append l i [] b = let e : i + 0 ≡ i = omega arith in rw e
-sets_append l i (x ∷ a) b = let e : i + suc (length a) ≡ suc i + length a = omega arith in rw e (sets_append (set l i x) (suc i) a b)
-
--- nothing
-pub wrote_none : (l : List ℕ) (at : ℕ) → Wrote l at [] l at
-wrote_none l at = record { ends = omega arith; bytes = refl }
+sets_append l i (x ∷ a) b = let e : i + suc (length a) ≡ suc i + length a = omega arith in rw e (sets_append _ (suc i) a b)
 
 -- one text after another
-pub then : {l m n a b : List ℕ} {at e f : ℕ} → Wrote l at a m e → Wrote m e b n f → Wrote l at (a ++ b) n f
-then {l} {m} {n} {a} {b} {at} {e} {f} p q =
+pub then : {t u v : Text} {a b : List ℕ} → Writes t a u → Writes u b v → Writes t (a ++ b) v
+then {t} {u} {v} {a} {b} p q =
     record {
-      ends = simp length-append (omega (arith, p.ends, q.ends));
-      bytes = q.bytes ∙ rw (p.bytes, p.ends) (sets_append l at a b);
+      same = q.same ∙ p.same;
+      wrote = record {
+        ends = simp length-append (omega (arith, p.wrote.ends, q.wrote.ends));
+        bytes = q.wrote.bytes ∙ rw (p.wrote.bytes, p.wrote.ends) (sets_append t.bytes.now t.at a b);
+      };
     }
 
--- a byte that fits, and one that does not
-pub wrote_in : (l : List ℕ) (at b : ℕ) → Wrote l at (b ∷ []) (set l at b) (at + 1)
-wrote_in l at b = record { ends = omega arith; bytes = refl }
-
-pub wrote_out : (l : List ℕ) (at b : ℕ) → length l ≤ at → Wrote l at (b ∷ []) l (at + 1)
-wrote_out l at b h = record { ends = omega arith; bytes = sym (set_out l at b h) }
+-- one part more of a text that is made of parts, one for each item of a list: `part` is that of the item at a place
+pub more : {A : Type 0} (texts : List A → List ℕ) (part : ℕ → A → List ℕ) → ((l : List A) (x : A) → texts (l ++ x ∷ []) ≡ texts l ++ part (length l) x)
+    → {t u v : Text} (l : List A) (i : ℕ) (d : A) → i < length l → Writes t (texts (take i l)) u → Writes u (part i (get_or l i d)) v → Writes t (texts (take (i + 1) l)) v
+more texts part push {t} {u} {v} l i d h p q =
+    let k : length (take i l) ≡ i = length-take-le i l (omega arith) in
+    rw (take_more l i d h, push (take i l) (get_or l i d), k) (then p q)
 
 -- the buffer's length stays
 pub wrote_length : {l m a : List ℕ} {at e : ℕ} → Wrote l at a m e → length m ≡ length l
 wrote_length {l} {m} {a} {at} {e} p = rw p.bytes (length-sets l at a)
 
--- a word of which nothing is written yet, one byte more of it, and all of it
-pub wrote_first : (l : List ℕ) (at : ℕ) → Wrote l at [] l (at + 0)
-wrote_first l at = record { ends = refl; bytes = refl }
-
-pub wrote_more : (l m n w : List ℕ) (at i e : ℕ) → i < length w → Wrote l at (take i w) m (at + i) → Wrote m (at + i) (get_or w i 0 ∷ []) n e → Wrote l at (take (i + 1) w) n (at + (i + 1))
-wrote_more l m n w at i e h p q =
-    let r : Wrote l at (take i w ++ get_or w i 0 ∷ []) n e = then p q in
-    let k : length (take i w) ≡ i = length-take-le i w (omega arith) in
-    record {
-      ends = rw (add-one i, take-suc w i 0) (simp length-append (omega arith));
-      bytes = r.bytes ∙ rw (add-one i, take-suc w i 0);
-    }
-
-pub wrote_whole : (l m w : List ℕ) (at i e : ℕ) → length w ≤ i → Wrote l at (take i w) m e → Wrote l at w m e
-wrote_whole l m w at i e h p = rw (take_all i w) at p
-
 -- a whole text at the front
 pub listed : {l m a : List ℕ} {e : ℕ} (b : List ℕ) → Wrote l 0 a m e → a ≡ b → (e ≡ length b) × (m ≡ sets l 0 b)
 listed {l} {m} {a} {e} b p q = let n : e ≡ length a = omega (arith, p.ends) in (rw (← q) n, rw (← q) p.bytes)
+
+-- what a lent buffer holds after a text was written into it
+pub left : {t u : Text} {a x : List ℕ} → Writes t a u → (t.bytes.ghost_name ≡ u.bytes.ghost_name → x ≡ u.bytes.now) → Wrote t.bytes.now t.at a x u.at
+left {t} {u} {a} {x} p h = rw (h (sym p.same)) p.wrote

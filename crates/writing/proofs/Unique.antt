@@ -1,18 +1,25 @@
 -- Each public contract of this crate has one answer only, and settles the text that it writes. Assumes nothing.
-use mathlib.Core.Path.{sym, ◌∙◌}
-use Rattle.unique.specs.Unique.{UniqueBytes}
-use Rattle.writing.proofs.put_byte.Kinds as put-byte-kinds
-use Rattle.writing.proofs.put_byte.Reads as put-byte-reads
-use Rattle.writing.proofs.put_number.Kinds as put-number-kinds
-use Rattle.writing.proofs.put_number.Reads as put-number-reads
-use Rattle.writing.proofs.put_word.Kinds as put-word-kinds
-use Rattle.writing.proofs.put_word.Reads as put-word-reads
+use Rattle.std.proofs.Common.{sym, ◌∙◌}
+use denote.RattleType.{RattleType}
+use denote.Param.Laws.{Laws, IsCopy}
+use mir.Syntax.{Dict}
+use Rattle.itoa.specs.declared.integer.Integer as Integer
+use Rattle.std.specs.declared.clone.Clone as Clone
+use Rattle.writing.specs.Unique.{UniqueText}
+use Rattle.writing.proofs.Text.byte.Kinds as byte-kinds
+use Rattle.writing.proofs.Text.byte.Reads as byte-reads
+use Rattle.writing.proofs.Text.number.Kinds as number-kinds
+use Rattle.writing.proofs.Text.number.Reads as number-reads
+use Rattle.writing.proofs.Text.word.Kinds as word-kinds
+use Rattle.writing.proofs.Text.word.Reads as word-reads
 
-pub put_byte_unique : UniqueBytes 1 put-byte-kinds.ps put-byte-kinds.r (λ κs e. e.0.now) put-byte-reads.Post
-put_byte_unique κs a x y e f p q = (p.ends ∙ sym q.ends, p.bytes ∙ sym q.bytes)
+pub byte_unique : UniqueText 2 byte-kinds.ps byte-kinds.r (λ κs x e. e.0.now) byte-reads.Post
+byte_unique κs a x y e f p q = (p.wrote.ends ∙ sym q.wrote.ends, p.wrote.bytes ∙ sym q.wrote.bytes)
 
-pub put_number_unique : UniqueBytes 1 put-number-kinds.ps put-number-kinds.r (λ κs e. e.0.now) put-number-reads.Post
-put_number_unique κs a x y e f p q = (p.0.ends ∙ sym q.0.ends, p.0.bytes ∙ sym q.0.bytes)
+pub word_unique : UniqueText 3 word-kinds.ps word-kinds.r (λ κs x e. e.0.now) word-reads.Post
+word_unique κs a x y e f p q = (p.wrote.ends ∙ sym q.wrote.ends, p.wrote.bytes ∙ sym q.wrote.bytes)
 
-pub put_word_unique : UniqueBytes 2 put-word-kinds.ps put-word-kinds.r (λ κs e. e.0.now) put-word-reads.Post
-put_word_unique κs a x y e f p q = (p.ends ∙ sym q.ends, p.bytes ∙ sym q.bytes)
+-- of every type of numbers
+pub number_unique : (T : RattleType) (l : Laws T) (c : IsCopy T) (i : Integer.Ghosts T.Denot) (d : Dict) (g : Clone.Ghosts T.Denot) (h : Dict)
+    → UniqueText 3 (number-kinds.ps T l c) (number-kinds.r T l c) (λ κs x e. e.0.now) (number-reads.Post T l c i d g h)
+number_unique T l c i d g h κs a x y e f p q = (p.0.wrote.ends ∙ sym q.0.wrote.ends, p.0.wrote.bytes ∙ sym q.0.wrote.bytes)

@@ -1,44 +1,47 @@
-// Bytes, words and numbers, written into a lent buffer as far as they fit. Each answers the place after what it wrote.
+// A text in the making: bytes, words and numbers, written into a lent buffer as far as they fit.
 #![tactic(auto)]
 
 ghost use Rattle.std.specs.Prelude.{[], ◌∷◌, ◌+◌, ◌≤◌, ◌<◌, length};
-ghost use Rattle.writing.specs.Writing.{Wrote, far};
-ghost use Rattle.protocol.specs.Listing.{digits_most, decimal};
+ghost use Rattle.writing.specs.Writing.{Writes, far};
 
-// One byte.
-pub fn put_byte(text: &mut [u8], at: usize, b: u8) -> usize
-    requires { at < far }
-    ensures { Wrote text.old at (b ∷ []) text.new result }
-{
-    if text.len() <= at {
-        return at + 1;
-    }
-    text[at] = b;
-    at + 1
+use itoa::{Buffer, Integer};
+
+// The buffer, and the place after what was written so far: a byte past the buffer's end is counted, and not stored.
+// No invariant bounds the place: each function would ask for the room of its own text all the same.
+#[derive(Drop)]
+pub struct Text<'a> {
+    pub bytes: &'a mut [u8],
+    pub at: usize,
 }
 
-// The bytes of a word.
-pub fn put_word(text: &mut [u8], at: usize, word: &[u8]) -> usize
-    requires { at + length word.now < far }
-    ensures { Wrote text.old at word.now text.new result }
-{
-    let mut i: usize = 0;
-    while i < word.len() {
-        put_byte(text, at + i, word[i]);
-        i += 1;
+impl Text<'_> {
+    // One byte.
+    pub fn byte(&mut self, b: u8)
+        requires { self.old.at < far }
+        ensures { Writes self.old (b ∷ []) self.new }
+    {
+        if self.at < self.bytes.len() {
+            self.bytes[self.at] = b;
+        }
+        self.at += 1;
     }
-    at + i
-}
 
-// A number in decimal.
-pub fn put_number(text: &mut [u8], at: usize, n: usize) -> usize
-    requires { at + digits_most < far }
-    ensures wrote { Wrote text.old at (decimal n) text.new result }
-    ensures upper_bound { result ≤ at + digits_most }
-{
-    if n < 10 {
-        return put_byte(text, at, b'0' + n as u8);
+    // The bytes of a word.
+    pub fn word(&mut self, word: &[u8])
+        requires { self.old.at + length word.now < far }
+        ensures { Writes self.old word.now self.new }
+    {
+        for b in word {
+            self.byte(*b);
+        }
     }
-    let last = put_number(text, at, n / 10);
-    put_byte(text, last, b'0' + (n % 10) as u8)
+
+    // A number in decimal. Not by `write!`: nothing excludes its Err, and `write_str` may not ask that `at` is small.
+    pub fn number<I: Integer>(&mut self, n: I)
+        requires { self.old.at + I.MAX_STR_LEN < far }
+        ensures wrote { Writes self.old (I.text n) self.new }
+        ensures upper_bound { self.new.at ≤ self.old.at + I.MAX_STR_LEN }
+    {
+        self.word(Buffer::new().format(n).as_bytes());
+    }
 }

@@ -1,10 +1,7 @@
-use native.Mathlib.Omega.{arith}
-use Rattle.writing.proofs.Decimals.{ten_digits}
+use Rattle.std.proofs.Common.{rules}
+use Rattle.writing.proofs.Decimals.{in_decimal}
 use Rattle.writing.proofs.Placing.{then}
 use Rattle.listing.proofs.put_numbered.Goals as goal
 
-pub returns : goal.returns
-returns c = record {
-  wrote = then c.put_word-at.ensures (then c.put_number-at.ensures.wrote c.put_byte.ensures);
-  upper_bound = omega (arith, c.put_byte.ensures.ends, c.put_number-at.ensures.wrote.ends, c.put_word-at.ensures.ends, ten_digits c.args.m c.ranges.m.fits);
-}
+pub returns-clause-wrote : goal.returns-clause-wrote
+returns-clause-wrote c = then c.word.ensures (then (in_decimal c.args.m (search rules) c.number.ensures.wrote) c.byte.ensures)

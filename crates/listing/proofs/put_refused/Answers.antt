@@ -1,9 +1,10 @@
-use native.Mathlib.Omega.{arith}
-use Rattle.writing.proofs.Placing.{then}
+use Rattle.std.proofs.Common.{rules}
+use Rattle.writing.proofs.Decimals.{in_decimal}
+use Rattle.writing.proofs.Placing.{then, left}
 use Rattle.listing.proofs.put_refused.Goals as goal
 
-pub returns : goal.returns
-returns c = record {
-  wrote = then c.put_word-at.ensures (then c.put_number-at.ensures.wrote (then c.put_byte-at.ensures (then c.put_number-at-2.ensures.wrote c.put_byte.ensures)));
-  upper_bound = omega (arith, c.put_byte.ensures.ends, c.put_number-at-2.ensures.upper_bound, c.put_byte-at.ensures.ends, c.put_number-at.ensures.upper_bound, c.put_word-at.ensures.ends);
-}
+pub returns-clause-wrote : goal.returns-clause-wrote
+returns-clause-wrote c =
+    let number = in_decimal c.args.number (search rules) c.number.ensures.wrote in
+    let offset = in_decimal c.args.offset (search rules) c.number-2.ensures.wrote in
+    left (then c.word.ensures (then number (then c.byte.ensures (then offset c.byte-2.ensures)))) (search rules)

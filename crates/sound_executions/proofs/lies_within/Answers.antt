@@ -1,19 +1,10 @@
-use native.Mathlib.Omega.{arith}
-use Rattle.search.proofs.Laws.{held_none, held_all, held_tested, held_failed}
-use mathlib.Core.Bool.{not, ◌||◌}
+use Rattle.std.proofs.Common.{rules, tests}
+use Rattle.search.specs.Tests.{implies}
+use Rattle.world.specs.Masks.{has}
 use Rattle.protocol.specs.Sound.{lies_within}
+use Rattle.sound_names.proofs.Places.{every_of_range}
 use Rattle.sound_executions.proofs.lies_within.Goals as goal
 
-pub loop-i-init : goal.loop-i-init
-loop-i-init c = held_none _ _
-
-pub loop-i-preserved : goal.loop-i-preserved
-loop-i-preserved c = held_tested _ _ _ (not c.has.result || c.has-in-loop-i.result) (omega arith) (cc) c.if-not-called_too.false-raw c.loop-i.invariant
-
-pub returns-then-i-eq-MOST : goal.returns-then-i-eq-MOST
+pub returns : goal.returns
 unfolding lies_within
-returns-then-i-eq-MOST c = held_all _ _ _ c.if-i-eq-MOST.true c.loop-i.invariant
-
-pub returns-then-not-called_too : goal.returns-then-not-called_too
-unfolding lies_within
-returns-then-not-called_too c = held_failed _ _ _ (not c.has.result || c.has-in-loop-i.result) (omega arith) (cc) c.if-not-called_too.true-raw c.loop-i.invariant
+returns c = every_of_range (λ i. implies (has c.args.mask i) (has c.args.called i)) _ _ _ _ c.all.ensures.ran (cc) (λ i b q k. search (rules, tests))

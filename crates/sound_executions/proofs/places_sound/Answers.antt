@@ -1,15 +1,15 @@
-use native.Mathlib.Omega.{arith}
-use Rattle.search.proofs.Laws.{held_none, held_all, held_tested, held_failed}
+use Rattle.std.proofs.Common.{◌≡◌, ◌∙◌, ℕ, ap, length, rules, tests}
+use Rattle.world.specs.declared.execution.Execution.{Execution}
+use Rattle.world.specs.Executions.{no_execution}
+use Rattle.protocol.specs.Zeros.{zero_execution}
+use Rattle.protocol.specs.Sound.{execution_sound, place_sound}
+use Rattle.sound_names.specs.Tables.{used_below}
 use Rattle.sound_executions.proofs.places_sound.Goals as goal
 
-pub loop-k-init : goal.loop-k-init
-loop-k-init c = held_none _ _
-
-pub loop-k-preserved : goal.loop-k-preserved
-loop-k-preserved c = held_tested _ _ _ _ (omega arith) c.place_sound.ensures c.if-not-place_sound.false-raw c.loop-k.invariant
-
-pub returns-then-k-eq-MOST : goal.returns-then-k-eq-MOST
-returns-then-k-eq-MOST c = held_all _ _ _ c.if-k-eq-MOST.true c.loop-k.invariant
-
-pub returns-then-not-place_sound : goal.returns-then-not-place_sound
-returns-then-not-place_sound c = held_failed _ _ _ _ (omega arith) c.place_sound.ensures c.if-not-place_sound.true-raw c.loop-k.invariant
+pub returns : goal.returns
+unfolding place_sound
+returns c =
+    let l : length c.args.t.now.table ≡ 16 = search rules in
+    let t = λ (k : ℕ) (x : Execution). execution_sound c.args.known.roster c.args.known.numbered c.args.sender k x in
+    c.used_below.ensures t zero_execution no_execution (λ k x r p. search (rules, tests)) (λ x r p. search (rules, tests))
+    ∙ ap (λ n. used_below t zero_execution no_execution c.args.t.now.table c.args.t.now.count n) l

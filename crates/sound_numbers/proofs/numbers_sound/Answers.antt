@@ -1,35 +1,20 @@
-use Rattle.protocol.specs.Sound.{number_at, numbers_sound}
-use Rattle.sound_numbers.proofs.Filled.{filled_once}
-use Prim.Native.Nat.{ℕ, ◌+◌, ◌<◌, ◌≤◌}
-use mathlib.Core.List.{List}
+use Rattle.std.proofs.Common.{◌≡◌, ◌∙◌, ℕ, ◌+◌, ◌<◌, ◌≤◌, List, ap, get_or, length, eqb, count_by, rules, tests, le-leb}
+use Rattle.search.specs.Search.{every}
+use Rattle.search.proofs.Laws.{count_same}
 use Rattle.world.specs.declared.execution.Executions.{Executions}
-use native.Mathlib.Omega.{arith}
-use mathlib.Core.Path.{◌≡◌, ap, ◌∙◌}
-use borrow.Author.Tests.{le-leb, lt-leb}
-use lib.Dec.{eqb}
-use lib.ListN.{get_or}
-use Rattle.search.specs.Search.{every, count}
-use Rattle.search.proofs.Laws.{held_none, held_all, held_tested, held_failed}
+use Rattle.protocol.specs.Sound.{number_at, numbers_sound}
+use Rattle.search.proofs.Items.{count_items}
+use Rattle.sound_names.proofs.Places.{every_of_range, every_same}
 use Rattle.sound_numbers.proofs.numbers_sound.Goals as goal
 
 -- the numbers that were taken out are those of the executions
-once : (ts : List Executions) (numbered : ℕ) (numbers : List ℕ) → numbered ≤ 128 → ((i : ℕ) → i < 128 → get_or numbers i 0 ≡ number_at ts i)
-    → every (λ (k : ℕ). eqb (count (λ (i : ℕ). eqb (get_or numbers i 0) (k + 1)) 128) 1) numbered ≡ numbers_sound ts numbered
+once : (ts : List Executions) (numbered : ℕ) (numbers : List ℕ) → numbered ≤ 128 → length numbers ≡ 128 → ((i : ℕ) → i < 128 → get_or numbers i 0 ≡ number_at ts i)
+    → every (λ (k : ℕ). eqb (count_by (λ (n : ℕ). eqb n (k + 1)) numbers) 1) numbered ≡ numbers_sound ts numbered
 unfolding numbers_sound
-once ts numbered numbers h e = rw (le-leb _ _ h) (filled_once (λ (i : ℕ). number_at ts i) numbers 128 numbered e)
+once ts numbered numbers h l e = rw (le-leb _ _ h) (every_same _ _ _ (λ k m. ap (λ (n : ℕ). eqb n 1) (
+    count_items (λ (n : ℕ). eqb n (k + 1)) 0 numbers 128 l ∙ count_same _ _ _ (λ i p. ap (λ (n : ℕ). eqb n (k + 1)) (e i p)))))
 
-pub returns-then-numbered-gt-MOST : goal.returns-then-numbered-gt-MOST
-unfolding numbers_sound
-returns-then-numbered-gt-MOST c = rw (lt-leb _ _ c.if-numbered-gt-MOST.true)
-
-pub loop-k-init : goal.loop-k-init
-loop-k-init c = held_none _ _
-
-pub loop-k-preserved : goal.loop-k-preserved
-loop-k-preserved c = held_tested _ _ _ (eqb c.times-once.result 1) (omega arith) (ap (λ (n : ℕ). eqb n 1) c.times-once.ensures) c.if-not-once.false-raw c.loop-k.invariant
-
-pub returns-then-k-numbered : goal.returns-then-k-numbered
-returns-then-k-numbered c = held_all _ _ _ c.if-k-numbered.true c.loop-k.invariant ∙ once c.args.tables c.args.numbered _ c.if-numbered-gt-MOST.false c.numbers_of-numbers.ensures
-
-pub returns-then-not-once : goal.returns-then-not-once
-returns-then-not-once c = held_failed _ _ _ (eqb c.times-once.result 1) (omega arith) (ap (λ (n : ℕ). eqb n 1) c.times-once.ensures) c.if-not-once.true-raw c.loop-k.invariant ∙ once c.args.tables c.args.numbered _ c.if-numbered-gt-MOST.false c.numbers_of-numbers.ensures
+pub returns : goal.returns
+returns c =
+    every_of_range (λ k. eqb (count_by (λ n. eqb n (k + 1)) c.numbers_of-numbers.result) 1) _ _ _ _ c.all.ensures.ran (cc) (λ k b q r. search (rules, tests))
+    ∙ once c.args.tables.now c.args.numbered _ c.if-numbered-gt-MOST.false (search rules) c.numbers_of-numbers.ensures

@@ -1,15 +1,14 @@
-use native.Mathlib.Omega.{arith}
-use Rattle.search.proofs.Laws.{held_none, held_all, held_tested, held_failed}
+use Rattle.std.proofs.Common.{◌≡◌, ◌∙◌, length, arith, rules, tests}
+use Rattle.world.specs.declared.request.Request.{Request}
+use Rattle.world.specs.Requests.{no_request, same_digest}
+use Rattle.protocol.specs.Sound.{new_digest}
+use Rattle.sound_names.proofs.Places.{keys_taken}
 use Rattle.sound_requests.proofs.digests_differ.Goals as goal
 
-pub loop-k-init : goal.loop-k-init
-loop-k-init c = held_none _ _
-
-pub loop-k-preserved : goal.loop-k-preserved
-loop-k-preserved c = held_tested _ _ _ _ (omega arith) c.new_digest.ensures c.if-not-new_digest.false-raw c.loop-k.invariant
-
-pub returns-then-k-count : goal.returns-then-k-count
-returns-then-k-count c = held_all _ _ _ c.if-k-count.true c.loop-k.invariant
-
-pub returns-then-not-new_digest : goal.returns-then-not-new_digest
-returns-then-not-new_digest c = held_failed _ _ _ _ (omega arith) c.new_digest.ensures c.if-not-new_digest.true-raw c.loop-k.invariant
+pub returns : goal.returns
+unfolding new_digest
+returns c =
+    let same = λ (a b : Request). same_digest a.digest b.digest in
+    let l : length c.args.q.now.slots ≡ 128 = search rules in
+    c.keys_differ.ensures same no_request (λ x y r p. search (rules, tests))
+    ∙ keys_taken same no_request c.args.q.now.slots _ c.args.q.now.count c.split_at.ensures.front (omega arith)

@@ -1,15 +1,15 @@
-use native.Mathlib.Omega.{arith}
-use Rattle.search.proofs.Laws.{held_none, held_all, held_tested, held_failed}
+use Rattle.std.proofs.Common.{◌≡◌, ◌∙◌, ℕ, ap, length, rules, tests}
+use Rattle.world.specs.declared.request.Request.{Request}
+use Rattle.world.specs.Requests.{no_request}
+use Rattle.protocol.specs.Zeros.{zero_request}
+use Rattle.protocol.specs.Sound.{stored_sound, slot_sound}
+use Rattle.sound_names.specs.Tables.{used_below}
 use Rattle.sound_requests.proofs.slots_sound.Goals as goal
 
-pub loop-k-init : goal.loop-k-init
-loop-k-init c = held_none _ _
-
-pub loop-k-preserved : goal.loop-k-preserved
-loop-k-preserved c = held_tested _ _ _ _ (omega arith) c.slot_sound.ensures c.if-not-slot_sound.false-raw c.loop-k.invariant
-
-pub returns-then-k-eq-MOST : goal.returns-then-k-eq-MOST
-returns-then-k-eq-MOST c = held_all _ _ _ c.if-k-eq-MOST.true c.loop-k.invariant
-
-pub returns-then-not-slot_sound : goal.returns-then-not-slot_sound
-returns-then-not-slot_sound c = held_failed _ _ _ _ (omega arith) c.slot_sound.ensures c.if-not-slot_sound.true-raw c.loop-k.invariant
+pub returns : goal.returns
+unfolding slot_sound
+returns c =
+    let l : length c.args.q.now.slots ≡ 128 = search rules in
+    let t = λ (k : ℕ) (x : Request). stored_sound c.args.roster x in
+    c.used_below.ensures t zero_request no_request (λ k x r p. search (rules, tests)) (λ x r p. search (rules, tests))
+    ∙ ap (λ n. used_below t zero_request no_request c.args.q.now.slots c.args.q.now.count n) l

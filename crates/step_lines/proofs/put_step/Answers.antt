@@ -1,10 +1,11 @@
-use Rattle.writing.proofs.Decimals.{three_digits, five_digits}
-use native.Mathlib.Omega.{arith}
+use Rattle.std.proofs.Common.{rules, arith}
+use Rattle.std.proofs.lemmas.Fmt.{length-decimal-le}
+use Rattle.writing.proofs.Decimals.{in_decimal}
 use Rattle.writing.proofs.Placing.{then}
 use Rattle.step_lines.proofs.put_step.Goals as goal
 
-pub returns : goal.returns
-returns c = record {
-  wrote = then c.put_word-at.ensures (then c.put_number-at.ensures.wrote (then c.put_byte-at.ensures (then c.put_number-at-2.ensures.wrote c.put_byte.ensures)));
-  upper_bound = omega (arith, c.put_byte.ensures.ends, c.put_number-at-2.ensures.wrote.ends, c.put_byte-at.ensures.ends, c.put_number-at.ensures.wrote.ends, c.put_word-at.ensures.ends, five_digits c.args.k c.requires.k_bound, three_digits c.args.answer c.ranges.answer.fits);
-}
+pub returns-clause-wrote : goal.returns-clause-wrote
+returns-clause-wrote c = then c.word.ensures (then (in_decimal c.args.k c.ranges.k.fits c.number.ensures.wrote) (then c.byte.ensures (then (in_decimal c.args.answer (search rules) c.number-2.ensures.wrote) c.byte-2.ensures)))
+
+pub returns-clause-upper_bound : goal.returns-clause-upper_bound
+returns-clause-upper_bound c = omega (arith, length-decimal-le 5 c.args.k)

@@ -1,9 +1,6 @@
-use Rattle.std.proofs.Common.{◌≡◌, ◌-◌, ◌≤◌}
+use Rattle.std.proofs.Common.{◌≡◌}
 use Rattle.fips180.specs.Sha256.{rounds_of}
 use Rattle.compression.proofs.state.rounds.Given as goal
 
 abbrev pub invariant-loop-t : goal.invariant-loop-t
-invariant-loop-t l = (l.t ≤ 64) × (l.u ≡ rounds_of l.s.words l.initial.u l.t)
-
-abbrev pub decreases-loop-t : goal.decreases-loop-t
-decreases-loop-t l = 64 - l.t
+invariant-loop-t l = l.u ≡ rounds_of l.s.words l.initial.u l.t

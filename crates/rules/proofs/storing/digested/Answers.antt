@@ -1,14 +1,8 @@
-use Rattle.fips180.specs.Sha256.{digest_of}
-use mathlib.Core.Path.{ap, ◌∙◌}
-use Prim.Native.Nat.{◌≤◌}
-use native.Mathlib.Omega.{arith}
-use lib.ListN.{length}
-use Rattle.fips180.specs.declared.Digest.{Digest}
-use Rattle.digest.proofs.Short.{short_digest}
+use Rattle.std.proofs.Common.{arith}
+use Rattle.digest.proofs.Short.{short_value}
 use Rattle.protocol.specs.Rules.{request_from}
 use Rattle.rules.proofs.storing.digested.Goals as goal
 
 pub returns : goal.returns
 unfolding request_from
-returns c = let l : length c.bytes-bytes.result ≤ 55 = omega arith in
-    rw (ap (λ (d : Digest). d.bytes) c.sha256.ensures ∙ short_digest c.bytes-bytes.result l ∙ ap digest_of c.bytes-bytes.ensures)
+returns c = let d = short_value c.bytes-bytes.result _ _ c.sha256.ensures c.unwrap-digest.ensures (omega arith) in cc

@@ -1,15 +1,8 @@
-use Rattle.std.proofs.Common.{arith}
-use Rattle.search.proofs.Laws.{passed_none, passed_more, passed_here, passed_all}
+use Rattle.std.proofs.Common.{eqb, rules, tests}
+use Rattle.std.proofs.lemmas.Iterator.{YieldsList-from_slice, YieldsList-from_take}
+use Rattle.search.proofs.Chains.{first_places_taken}
+use Rattle.world.specs.Executions.{no_execution}
 use Rattle.world.proofs.execution.Executions.find.Goals as goal
 
-pub loop-k-init : goal.loop-k-init
-loop-k-init c = passed_none _ _
-
-pub loop-k-preserved : goal.loop-k-preserved
-loop-k-preserved c = passed_more _ _ _ (omega arith) c.if-k-count.false c.loop-k.invariant
-
-pub returns-then-k-eq-MOST : goal.returns-then-k-eq-MOST
-returns-then-k-eq-MOST c = passed_all _ _ _ c.if-k-eq-MOST.true c.loop-k.invariant
-
-pub returns-then-k-count : goal.returns-then-k-count
-returns-then-k-count c = passed_here _ _ _ (omega arith) c.if-k-count.true c.loop-k.invariant
+pub returns : goal.returns
+returns c = first_places_taken _ (λ x. eqb x.id c.args.id) no_execution _ _ _ _ c.position.ensures.ran (YieldsList-from_take c.args.self.count (YieldsList-from_slice c.args.self.table (cc)) (cc)) (λ x b q k. search (rules, tests)) (search rules)

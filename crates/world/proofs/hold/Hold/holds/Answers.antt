@@ -1,16 +1,8 @@
-use Rattle.std.specs.Prelude.{is_some}
-use Rattle.std.proofs.Common.{sym, ap, ◌∙◌, arith}
-use Rattle.search.proofs.Laws.{passed_none, passed_more, passed_here, passed_all}
+use Rattle.std.proofs.Common.{rules, tests}
+use Rattle.std.proofs.lemmas.Iterator.{YieldsList-from_slice}
+use Rattle.search.proofs.Chains.{any_places}
+use Rattle.world.specs.Hold.{is_entry, free_entry}
 use Rattle.world.proofs.hold.Hold.holds.Goals as goal
 
-pub loop-k-init : goal.loop-k-init
-loop-k-init c = passed_none _ _
-
-pub loop-k-preserved : goal.loop-k-preserved
-loop-k-preserved c = passed_more _ _ _ (omega arith) (sym c.is_of.ensures ∙ c.if-is_of.false) c.loop-k.invariant
-
-pub returns-then-k-eq-PLACES : goal.returns-then-k-eq-PLACES
-returns-then-k-eq-PLACES c = ap is_some (passed_all _ _ _ c.if-k-eq-PLACES.true c.loop-k.invariant)
-
-pub returns-then-is_of : goal.returns-then-is_of
-returns-then-is_of c = ap is_some (passed_here _ _ _ (omega arith) (sym c.is_of.ensures ∙ c.if-is_of.true) c.loop-k.invariant)
+pub returns : goal.returns
+returns c = any_places _ (λ e. is_entry e c.args.sending) free_entry _ _ _ c.any.ensures.ran (YieldsList-from_slice _ (cc)) (λ x b q k. search (rules, tests)) (search rules)

@@ -1,14 +1,8 @@
-use Rattle.std.proofs.Common.{◌≡◌, sym, arith, rules}
-use Rattle.search.proofs.Laws.{count_none, counted_yes, counted_no}
+use Rattle.std.proofs.Common.{not, rules, tests}
+use Rattle.std.proofs.lemmas.Iterator.{YieldsList-from_slice}
+use Rattle.search.proofs.Chains.{count_places}
+use Rattle.world.specs.Outgoing.{free_packet}
 use Rattle.world.proofs.outgoing.Outgoing.room.Goals as goal
 
-pub loop-k-init : goal.loop-k-init
-loop-k-init c = (search rules, (search rules, sym (count_none _)))
-
-pub loop-k-preserved : goal.loop-k-preserved
-loop-k-preserved c =
-    let e = c.loop-k.invariant.1.1 in
-    (omega arith, (omega arith, grind (arith, counted_yes, counted_no)))
-
 pub returns : goal.returns
-returns c = let e : c.loop-k.k ≡ 64 = omega arith in rw e at c.loop-k.invariant.1.1
+returns c = count_places (λ p. not p.there) free_packet c.args.self.places _ _ c.count.ensures.ran (YieldsList-from_slice _ (cc)) c.filter.ensures.closure (λ x b q k. search (rules, tests)) (search rules)

@@ -1,9 +1,6 @@
-use Rattle.std.proofs.Common.{◌≡◌, ◌-◌, ◌≤◌}
+use Rattle.std.proofs.Common.{◌≡◌}
 use Rattle.world.specs.Outgoing.{sent_below}
 use Rattle.world.proofs.outgoing.Outgoing.send.Given as goal
 
 abbrev pub invariant-loop-to : goal.invariant-loop-to
-invariant-loop-to l = (l.to ≤ 8) × (l.o ≡ sent_below l.roster l.mask l.server l.sending l.initial.o l.to)
-
-abbrev pub decreases-loop-to : goal.decreases-loop-to
-decreases-loop-to l = 8 - l.to
+invariant-loop-to l = l.o ≡ sent_below l.roster l.mask l.server l.sending l.initial.o l.to

@@ -1,21 +1,9 @@
-use Rattle.std.specs.Prelude.{is_some}
-use Rattle.std.proofs.Common.{Bool, ◌&&◌, ltb, sym, ap, ◌∙◌, arith}
-use Rattle.search.proofs.Laws.{passed_none, passed_more, passed_here, passed_all}
-use Rattle.world.specs.Requests.{known_digest}
+use Rattle.std.proofs.Common.{rules, tests}
+use Rattle.std.proofs.lemmas.Iterator.{YieldsList-from_slice, YieldsList-from_take}
+use Rattle.search.proofs.Chains.{any_places_taken}
+use Rattle.world.specs.Requests.{no_request, same_digest, known_digest}
 use Rattle.world.proofs.request.Requests.knows.Goals as goal
 
-pub loop-k-init : goal.loop-k-init
-loop-k-init c = passed_none _ _
-
-pub loop-k-preserved : goal.loop-k-preserved
-loop-k-preserved c = let t = ap (λ (b : Bool). ltb c.loop-k.k c.args.self.count && b) (sym c.has_digest.ensures) in
-    passed_more _ _ _ (omega arith) (t ∙ c.if-k-count.false) c.loop-k.invariant
-
-pub returns-then-k-eq-MOST : goal.returns-then-k-eq-MOST
+pub returns : goal.returns
 unfolding known_digest
-returns-then-k-eq-MOST c = ap is_some (passed_all _ _ _ c.if-k-eq-MOST.true c.loop-k.invariant)
-
-pub returns-then-k-count : goal.returns-then-k-count
-unfolding known_digest
-returns-then-k-count c = let t = ap (λ (b : Bool). ltb c.loop-k.k c.args.self.count && b) (sym c.has_digest.ensures) in
-    ap is_some (passed_here _ _ _ (omega arith) (t ∙ c.if-k-count.true) c.loop-k.invariant)
+returns c = any_places_taken _ (λ r. same_digest r.digest c.args.digest) no_request _ _ _ _ c.any.ensures.ran (YieldsList-from_take c.args.self.count (YieldsList-from_slice c.args.self.slots (cc)) (cc)) (λ x b q k. search (rules, tests)) (search rules)

@@ -1,4 +1,0 @@
-use Rattle.bridge.proofs.staubharfe_step.Goals as goal
-
-pub returns : goal.returns
-returns c = c.step.ensures

@@ -1,4 +1,0 @@
-use Rattle.sound_names.proofs.zeros.zero_entry.Goals as goal
-
-pub returns : goal.returns
-returns c = cc

@@ -1,4 +1,0 @@
-use Rattle.world.proofs.roster.Roster.is_good.Goals as goal
-
-pub returns : goal.returns
-returns c = cc

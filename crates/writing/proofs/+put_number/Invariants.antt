@@ -1,5 +1,0 @@
--- Each call has a tenth of the number.
-use Rattle.writing.proofs.+put_number.Given as goal
-
-abbrev pub decreases-put_number : goal.decreases-put_number
-decreases-put_number l = l.n
