@@ -13,7 +13,7 @@ use protocol::Outcome;
 use world::World;
 
 // How a run ended: 0 and the count of records after the start, or a refusal's code and offset; and the world at its
-// end, a world of zeros where it is refused.
+// end, a world of zeros where it is refused. The C interface has no Result.
 #[repr(C)]
 #[derive(Clone, Copy)]
 pub struct Run {

@@ -3,6 +3,6 @@
 
 mod expansion; // step 1: the message schedule
 mod state; // steps 2 to 4: the rounds on the hash value, and its bytes
-mod word; // §4.1.2: the functions on words, and the bytes of a word
+mod word; // §4.1.2: the functions on words
 
 pub use state::{bytes, compress, start};

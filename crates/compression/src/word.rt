@@ -3,6 +3,7 @@ ghost use Rattle.std.specs.Prelude.{◌≡◌, ◌<◌};
 ghost use Rattle.fips180.specs.Sha256.{rotr, ch, maj, Σ₀, Σ₁, σ₀, σ₁};
 
 // §3.2: x rotated to the right by n places: the bits that leave on the right come back on the left.
+// From shifts and a joined mask, a form that document 01 expects.
 fn rotr(x: u32, n: u32) -> u32
     requires { (0 < n) × (n < 32) }
     ensures { result ≡ rotr n x }

@@ -16,6 +16,7 @@ pub struct Failure {
     why: io::Error,
 }
 
+// By hand: what `main` prints of it is this line, and a derive would print the fields.
 impl Debug for Failure {
     fn fmt<W: fmt::Write>(&self, f: &mut Formatter<W>) -> fmt::Result {
         let stream = self.stream;
@@ -35,6 +36,7 @@ pub fn has_arguments<R: Env + Eprint>(rt: &R, program: &str) -> bool {
 }
 
 // Reads standard input up to its end, or until the buffer is full; answers how many bytes it had.
+// The count stands beside the buffer: memory is fixed, and std's `read` answers so.
 pub fn read<R: Input>(rt: &R, buf: &mut [u8]) -> Result<usize, Failure>
     ensures { IfOk result (λ n. n ≤ length buf.old) }
 {

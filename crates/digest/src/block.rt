@@ -45,5 +45,6 @@ fn padded_byte(s: &[u8], p: usize) -> u8
     if p < e {
         return 0;
     }
+    // A cast: `u64` has no `From<usize>`.
     (n as u64).wrapping_mul(8).to_be_bytes()[p - e]
 }

@@ -17,11 +17,6 @@ use Rattle.format.specs.declared.kinds.Form.{Form}
 use Rattle.format.specs.declared.kinds.Form.TheVariants.{Start, Step, Bad}
 use Rattle.format.specs.Records.{start_body, kinds, form_of}
 
--- past the table there is no kind
-pub no_kind : (k : ℕ) → length kinds ≤ k → form_of k ≡ Bad
-unfolding form_of
-no_kind k h = get_or_past kinds k Bad h
-
 -- a number that is none of the first ones is a later one
 pub later : {n k : ℕ} → n ≤ k → k ≢ n → suc n ≤ k
 later h d = omega arith

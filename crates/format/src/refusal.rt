@@ -18,7 +18,7 @@ pub enum Refusal {
 impl From<Refusal> for u8 {
     ghost from_gives = { λ why code. code ≡ refusal_code why };
 
-    // The code that document 01 gives it.
+    // The code that document 01 gives it, number by number, as its definition.
     fn from(why: Refusal) -> u8 {
         match why {
             Refusal::TooLong => 20,

@@ -4,12 +4,13 @@
 ghost use Rattle.std.specs.Prelude.{◌≡◌, ◌+◌, ◌*◌, ◌≤◌, length, take};
 ghost use Rattle.std.proofs.lemmas.List.Edits.{sets};
 ghost use Rattle.world.specs.Sizes.{servers};
-ghost use Rattle.format.specs.Judging.{schedule_most};
+ghost use Rattle.format.specs.Judging.{refusal_code, schedule_most};
 ghost use Rattle.writing.specs.Writing.{Wrote, Writes};
 ghost use Rattle.protocol.specs.Runs.{written_of};
 ghost use Rattle.protocol.specs.Longest.{record_bytes_least, numbered_most, listing_most};
 ghost use Rattle.protocol.specs.Listing.{refused_line, numbered_line, run_lines, listing_of};
 
+use format::Refused;
 use server_lines::put_servers;
 use step_lines::{put_steps, put_world};
 use world::World;
@@ -19,15 +20,15 @@ use writing::Text;
 pub const MOST: usize = 262144;
 
 // `refused NUMBER OFFSET`, alone.
-fn put_refused(text: &mut [u8], number: u8, offset: usize) -> usize
-    ensures wrote { Wrote text.old 0 (refused_line number offset) text.new result }
+fn put_refused(text: &mut [u8], refused: Refused) -> usize
+    ensures wrote { Wrote text.old 0 (refused_line (refusal_code refused.why) refused.offset) text.new result }
     ensures upper_bound { result ≤ listing_most }
 {
     let mut text = Text { bytes: text, at: 0 };
     text.word(b"refused ");
-    text.number(number);
+    text.number(u8::from(refused.why));
     text.byte(b' ');
-    text.number(offset);
+    text.number(refused.offset);
     text.byte(b'\n');
     text.at
 }
@@ -44,15 +45,14 @@ fn put_numbered(text: &mut Text<'_>, m: u32)
 }
 
 // All lines of a run.
-fn put_run(text: &mut [u8], answers: &[u8], records: usize, w: World) -> usize
-    requires record_bytes_least_bound { records * record_bytes_least ≤ schedule_most }
-    requires records_in_bounds { records ≤ length answers.now }
+fn put_run(text: &mut [u8], answers: &[u8], w: World) -> usize
+    requires record_bytes_least_bound { length answers.now * record_bytes_least ≤ schedule_most }
     requires n_le_servers { w.roster.n ≤ servers }
-    ensures wrote { Wrote text.old 0 (run_lines records (take records answers.now) w) text.new result }
+    ensures wrote { Wrote text.old 0 (run_lines (length answers.now) answers.now w) text.new result }
     ensures upper_bound { result ≤ listing_most }
 {
-    let mut text = put_world(text, w.roster, records);
-    put_steps(&mut text, &answers[..records]);
+    let mut text = put_world(text, w.roster, answers.len());
+    put_steps(&mut text, answers);
     put_servers(&mut text, w);
     put_numbered(&mut text, w.numbered);
     text.at
@@ -67,7 +67,7 @@ pub fn list(schedule: &[u8], answers: &mut [u8], text: &mut [u8]) -> usize
         ≡ sets text.old 0 (listing_of schedule.now (length answers.old)) }
 {
     match rehearsal::run(schedule, answers) {
-        Ok(ran) => put_run(text, answers, ran.records, ran.world),
-        Err(refused) => put_refused(text, refused.why.into(), refused.offset),
+        Ok(ran) => put_run(text, &answers[..ran.records], ran.world),
+        Err(refused) => put_refused(text, refused),
     }
 }

@@ -23,7 +23,7 @@ pub enum Answer {
 impl From<Answer> for u8 {
     ghost from_gives = { λ answer code. code ≡ answer_code answer };
 
-    // The code that document 01 gives it.
+    // The code that document 01 gives it, number by number, as its definition.
     fn from(answer: Answer) -> u8 {
         match answer {
             Answer::Done => 0,

@@ -19,13 +19,14 @@ pub struct Boxes {
     pub delivered: Delivered,
 }
 
+// The boxes with the answer. No Result: document 01 has an answer to every step, and 1 changes a box as 0 does.
 #[derive(Clone, Copy)]
 pub struct Ruling {
     pub answer: Answer,
     pub boxes: Boxes,
 }
 
-// The stored requests with the answer to one more.
+// The stored requests with the answer to one more. No Result, as in `Ruling`.
 #[derive(Clone, Copy)]
 pub struct Requested {
     pub answer: Answer,

@@ -2,7 +2,7 @@
 use crate::answer::Answer;
 use world::World;
 
-// A step's end: its answer, and the world after.
+// A step's end: its answer, and the world after. No Result, as in `Ruling`.
 #[derive(Clone, Copy)]
 pub struct Stepped {
     pub answer: Answer,

@@ -5,8 +5,8 @@ ghost use Rattle.std.specs.Prelude.{◌≡◌};
 ghost use Rattle.protocol.specs.Names.{own_execution};
 ghost use Rattle.protocol.specs.Quiet.{outgoing_quiet, is_numbered, stirs, hold_quiet, server_quiet};
 
-use sound_names::{has_execution, is_correct, own_execution, seat, table_of};
-use world::{Entry, Execution, Executions, Hold, Outgoing, Roster, Sending, World};
+use sound_names::{has_execution, is_correct, own_execution, table_of};
+use world::{Entry, Execution, Executions, Hold, Outgoing, Roster, Sending, World, seat};
 
 // Whether no outgoing place has a packet for a correct server.
 fn outgoing_quiet(roster: Roster, o: &Outgoing) -> bool

@@ -8,7 +8,7 @@ ghost use Rattle.rehearsal.specs.Acts.{Seated, touch_by, act_of};
 use format::Act;
 use protocol::{Boxes, Requested, Ruling, Touch};
 use schedule::{byte_at, bytes_at, four_at, two_at};
-use world::{Entry, Packet, Requests, Roster, World, within};
+use world::{Entry, Packet, Requests, Roster, seat, within};
 
 // Whose boxes a record's step touches: its body starts with x and y, and those name the packet p or the entry e of
 // server x.
@@ -16,7 +16,6 @@ pub(crate) fn touch_by(act: Act, x: u8, y: u8, p: Packet, e: Entry) -> Touch
     ensures value { result ≡ touch_by act x y p e }
     ensures seated { Seated result }
 {
-    let seat = |name: u8| within(World::SERVERS, name);
     let server = seat(x);
     let own = Touch {
         server,
@@ -46,7 +45,8 @@ pub(crate) fn touch_by(act: Act, x: u8, y: u8, p: Packet, e: Entry) -> Touch
     }
 }
 
-// The rule of a record with this body, on the boxes.
+// The rule of a record with this body, on the boxes. An arm for each act: their fields differ, so that closures or
+// a table of rules would each take the body apart again.
 pub(crate) fn act(act: Act, body: &[u8], roster: Roster, boxes: Boxes) -> Ruling
     ensures { result ≡ act_of roster act body.now 0 boxes }
 {

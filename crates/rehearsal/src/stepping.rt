@@ -10,7 +10,7 @@ use crate::boxing::{act, store, touch_by};
 use format::{Act, Kind, Read, Refusal};
 use protocol::{Answer, Boxes, Stepped};
 use schedule::{byte_at, read_at};
-use world::{World, within};
+use world::{World, seat};
 
 // The request of a record with this body, on the whole world.
 #[tactic(auto, unfolding(protocol::specs::Steps::step_of))]
@@ -29,7 +29,7 @@ fn act_in(w: &mut World, a: Act, body: &[u8]) -> Answer
 {
     let x = byte_at(body, 0);
     let y = byte_at(body, 1);
-    let i = within(World::SERVERS, x);
+    let i = seat(x);
     let t = touch_by(a, x, y, w.outgoing[i].at(y), w.holds[i].at(y));
     let boxes = Boxes {
         numbered: w.numbered,

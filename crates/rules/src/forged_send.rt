@@ -23,7 +23,7 @@ fn try_forge_send(
     must(roster.member(server), Answer::BadServer)?;
     must(roster.is_faulty(server), Answer::WrongSide)?;
     must(b.executions.find(id).is_none(), Answer::Recall)?;
-    let made = b.executions.count as usize;
+    let made = usize::from(b.executions.count);
     must(made < Executions::MOST, Answer::Quota)?;
     make(roster, server, id, digest, b);
     Ok(Answer::Done)

@@ -9,7 +9,7 @@ use world::Entry;
 pub(crate) fn drop_entry(place: u8, b: &mut Boxes) -> Answer
     ensures { answered result b.new ≡ dropped_at place b.old }
 {
-    b.hold = b.hold.put(place as usize, Entry::free());
+    b.hold = b.hold.put(usize::from(place), Entry::free());
     Answer::Dropped
 }
 
@@ -20,5 +20,5 @@ pub(crate) fn raise(place: u8, stage: u8, number: u32, b: &mut Boxes)
     let sending = b.hold.at(place).sending;
     b.hold = b
         .hold
-        .put(place as usize, Entry::new(stage, sending, number));
+        .put(usize::from(place), Entry::new(stage, sending, number));
 }

@@ -1,8 +1,8 @@
 // The rules of document 01's "Steps, with tests in order": what each kind of step does to the boxes that it touches.
 #![tactic(auto)]
 
-// A rule takes the roster, a server and the boxes one by one, in no struct: so does its definition in protocol's Rules,
-// and a struct's clauses would take it apart again.
+// A rule takes the roster, a server, a record's fields and the boxes one by one, in no struct: so does its definition
+// in protocol's Rules, and a struct's clauses would take it apart again.
 
 mod holding; // an entry freed or raised
 mod orderer; // an execution made, a call recorded

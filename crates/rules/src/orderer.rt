@@ -14,7 +14,7 @@ pub(crate) fn make(roster: Roster, sender: u8, id: u16, digest: [u8; Digest::BYT
     ensures { b.new ≡ made roster sender id digest b.old }
 {
     let o = Execution::open(sender, id, digest).order(roster, b.numbered);
-    b.executions.table[b.executions.count as usize] = o.execution;
+    b.executions.table[usize::from(b.executions.count)] = o.execution;
     b.executions.count += 1;
     b.numbered = o.numbered;
 }

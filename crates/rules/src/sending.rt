@@ -28,9 +28,9 @@ fn try_multicast(roster: Roster, server: u8, slot: u8, b: &mut Boxes) -> Result<
     must(slot < b.stored, Answer::NoSuch)?;
     must(has(b.request.seals, server), Answer::Dismissed)?;
     let made = b.executions.count;
-    must((made as usize) < Executions::MOST, Answer::Quota)?;
+    must(usize::from(made) < Executions::MOST, Answer::Quota)?;
     must(has_room(roster, server, b), Answer::NoRoom)?;
-    let id = made as u16 + 1;
+    let id = u16::from(made) + 1;
     let sending = Sending {
         id,
         sender: server,

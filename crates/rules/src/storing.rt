@@ -8,7 +8,7 @@ use crate::testing::must;
 use protocol::{Answer, Requested};
 use world::{Request, Requests, Roster};
 
-// The request that the fields make, with its digest.
+// The request that the fields make, with its digest. The four fields stay apart, as in the definition `request_of`.
 #[tactic(auto, using(digest::proofs::Short::short_ok))]
 fn digested(client: u8, serial: u32, seals: u8, command: [u8; Request::COMMAND]) -> Request
     ensures { result ≡ request_from client serial seals command }
@@ -49,7 +49,7 @@ fn try_request(
     must(!roster.strays(seals), Answer::BadField)?;
     let new = digested(client, serial, seals, command);
     must(!q.knows(new.digest), Answer::SameDigest)?;
-    must((q.count as usize) < Requests::MOST, Answer::NoRoom)?;
+    must(usize::from(q.count) < Requests::MOST, Answer::NoRoom)?;
     Ok(new)
 }
 
@@ -69,7 +69,7 @@ pub fn request(
         Err(answer) => return Requested { answer, requests },
     };
     let mut q = requests;
-    q.slots[q.count as usize] = new;
+    q.slots[usize::from(q.count)] = new;
     q.count += 1;
     Requested {
         answer: Answer::Done,

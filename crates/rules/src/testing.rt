@@ -52,7 +52,8 @@ pub(crate) fn found(
 // A rule tried on the boxes: its answer, and the boxes after.
 pub(crate) fn ruled<F: FnOnce(&mut Boxes) -> Result<Answer, Answer>>(b: Boxes, rule: F) -> Ruling
     requires { F.IsAlwaysCallable rule }
-    ensures { (tried : Result Answer Answer) × FnOnceReturnsAtMut F.FnOnce rule b tried result.boxes × (result.answer ≡ told tried) }
+    ensures { (tried : Result Answer Answer)
+        × FnOnceReturnsAtMut F.FnOnce rule b tried result.boxes × (result.answer ≡ told tried) }
 {
     let mut boxes = b;
     let answer = told(rule(&mut boxes));

@@ -1,5 +1,5 @@
 -- What a chain of iterators returns, said of places: std's lemma of the call and the law of `Items` in one. Assumes nothing.
-use Rattle.std.proofs.Common.{◌≡◌, ℕ, Bool, true, false, ◌&&◌, List, length, get_or, take, sym, ◌∙◌, ltb, Option, Some, None}
+use Rattle.std.proofs.Common.{◌≡◌, ℕ, Bool, true, false, ◌&&◌, List, length, get_or, take, ◌∙◌, ltb, Option, Some, None}
 use denote.Param.Members.{Mut}
 use denote.Ref.{Bor}
 use Rattle.std.specs.Fn.{Called, CalledAt}
@@ -7,15 +7,13 @@ use Rattle.std.specs.Iterator.{YieldsThen, Drains}
 use Rattle.std.specs.Iterator.Adapters.{filter_source, filter_callee, filter_steps}
 use Rattle.std.specs.declared.iter.Filter.{Filter}
 use Rattle.std.specs.List.{FoldsTo, count_by, range_with_len}
-use Rattle.std.specs.Bool.{⊤}
 use Rattle.std.specs.Option.{MatchOption}
 use Rattle.std.proofs.lemmas.Iterator.{YieldsList}
-use Rattle.std.proofs.lemmas.Iterator.Search.{all_from_yields_List, any_from_yields_List, position_from_yields_List, find_from_yields_List}
+use Rattle.std.proofs.lemmas.Iterator.Search.{all_from_yields_List, any_from_yields_List, position_from_yields_List}
 use Rattle.std.proofs.lemmas.Iterator.Consumers.{YieldsList-from_filter, count_from_yields_List}
 use Rattle.std.proofs.lemmas.List.Sums.{length-filter}
 use Rattle.search.specs.Search.{first, any, every, count}
-use Rattle.std.proofs.lemmas.Iterator.Adapters.{option_map_id}
-use Rattle.search.proofs.Items.{first_items, any_items, every_items, count_items, first_taken, any_taken, first_numbers, any_numbers, every_numbers, count_numbers}
+use Rattle.search.proofs.Items.{first_items, any_items, every_items, count_items, first_taken, any_taken, any_numbers, every_numbers, count_numbers}
 
 -- a closure that computes a test of what it is given, and of what it is lent
 abbrev pub Tests : {A B F : Type 0} → (A → B) → Mut F (A × Unit {0}) Bool → F → (B → Bool) → Type 0
@@ -24,7 +22,7 @@ Tests {A = A} {F = F} v g f p = (x : A) (b : Bool) (q : F) → Called g f (x, tt
 abbrev pub TestsLent : {A B F : Type 0} → (A → B) → Mut F (Bor A × Unit {0}) Bool → F → (B → Bool) → Type 0
 TestsLent {A = A} {F = F} v g f p = (x : A) (b : Bool) (q : F) → CalledAt g f x b q → (q ≡ f) × (b ≡ p (v x))
 
--- the clauses `ran` of `all`, `any`, `position`, `find` and `count`
+-- the clauses `ran` of `all`, `any`, `position` and `count`
 abbrev pub AllRan : {S A F : Type 0} → (S → Option A → S → Type 0) → Mut F (A × Unit {0}) Bool → S → S → F → Bool → Type 0
 AllRan {A = A} {F = F} steps g s u f r =
     (xs : List A) × (o : Option A) × (j : F) × YieldsThen steps s xs o u × FoldsTo (λ p x q. Called g p (x, tt) true q) f xs j
@@ -39,10 +37,6 @@ abbrev pub PositionRan : {S A F : Type 0} → (S → Option A → S → Type 0) 
 PositionRan {A = A} {F = F} steps g s u f r =
     (xs : List A) × (o : Option A) × (j : F) × YieldsThen steps s xs o u × FoldsTo (λ p x q. Called g p (x, tt) false q) f xs j
     × MatchOption o (r ≡ None) (λ x. (r ≡ Some (length xs)) × ((h : F) × Called g j (x, tt) true h))
-
-abbrev pub FindRan : {S A F : Type 0} → (S → Option A → S → Type 0) → Mut F (Bor A × Unit {0}) Bool → S → S → F → Option A → Type 0
-FindRan {A = A} {F = F} steps g s u f r =
-    (xs : List A) × (j : F) × YieldsThen steps s xs r u × FoldsTo (λ p x q. CalledAt g p x false q) f xs j × MatchOption r ⊤ (λ x. (h : F) × CalledAt g j x true h)
 
 abbrev pub CountRan : {S A : Type 0} → (S → Option A → S → Type 0) → S → ℕ → Type 0
 CountRan {A = A} steps s r = (xs : List A) × Drains steps s xs × (r ≡ length xs)
@@ -74,11 +68,6 @@ module _ {S A F : Type 0} {steps : S → Option A → S → Type 0} {g : Mut F (
 
     pub any_numbered : (r : Bool) → AnyRan steps g s u f r → YieldsList steps v s (range_with_len 0 n) → Tests v g f t → r ≡ any t n
     any_numbered r ran road k = any_from_yields_List t _ _ r ran road k ∙ any_numbers t n
-
--- the lowest of the numbers below n at which the test holds, by `find`
-module _ {S F : Type 0} {steps : S → Option ℕ → S → Type 0} {g : Mut F (Bor ℕ × Unit {0}) Bool} {s : S} {f : F} where
-  pub first_numbered : (u : S) (t : ℕ → Bool) (n : ℕ) (r : Option ℕ) → FindRan steps g s u f r → YieldsList steps (λ x. x) s (range_with_len 0 n) → TestsLent (λ x. x) g f t → r ≡ first t n
-  first_numbered u t n r ran road k = sym (option_map_id r) ∙ find_from_yields_List t _ _ r ran road k ∙ first_numbers t n
 
 -- `count` after `filter`
 module _ {S A F : Type 0} {steps : S → Option A → S → Type 0} {g : Mut F (Bor A × Unit {0}) Bool} {s : Filter S F} {f : F} where

@@ -1,7 +1,7 @@
 -- What searches over places say of a list's elements, in std's words. Assumes nothing.
 use Rattle.std.proofs.Common.{◌≡◌, ℕ, zero, suc, ◌+◌, ◌<◌, ◌≤◌, Bool, true, false, cond, not, ◌&&◌, ◌||◌, List, [], ◌∷◌, length, get_or, take, take_all, refl, sym, ap, ◌∙◌, arith, add-zero, zero-add, add-one, ltb, lt-ltb, le-ltb, ltb-true, ltb-false, Some, None, is_some}
 use Rattle.std.specs.Cmp.Lexicographic.{pointwise}
-use Rattle.std.specs.List.{list_any, list_all, position_from, position, count_by, find, range_with_len}
+use Rattle.std.specs.List.{list_any, list_all, position_from, position, count_by, range_with_len}
 use Rattle.std.proofs.lemmas.Iterator.Adapters.{position_from-zero}
 use Rattle.std.proofs.lemmas.List.Sums.{count_by_more_yes, count_by_more_no}
 use Rattle.std.proofs.lemmas.List.FromFn.{length-range_with_len, get_or-range_with_len}
@@ -94,18 +94,10 @@ pub any_taken : {A : Type 0} (p : A → Bool) (d : A) (xs : List A) (c n : ℕ) 
 any_taken p d xs c n l = any_from_items p 0 (take c xs) ∙ ap is_some (sym (position_from-zero p (take c xs)) ∙ first_taken p d xs c n l)
 
 -- the same of the numbers below n
-find_range : (t : ℕ → Bool) (at n : ℕ) → find t (range_with_len at n) ≡ first_from t at n
-unfolding first_from
-find_range t at zero = refl
-find_range t at (suc n) = rw (find_range t (at + 1) n)
-
 any_range : (t : ℕ → Bool) (at n : ℕ) → list_any t (range_with_len at n) ≡ is_some (first_from t at n)
 unfolding first_from
 any_range t at zero = refl
 any_range t at (suc n) = elim (t at) as (λ b. (b || list_any t (range_with_len (at + 1) n)) ≡ is_some (cond b (Some at) (first_from t (at + 1) n))) [ true ↦ refl | false ↦ any_range t (at + 1) n ]
-
-pub first_numbers : (t : ℕ → Bool) (n : ℕ) → find t (range_with_len 0 n) ≡ first t n
-first_numbers t n = find_range t 0 n
 
 pub any_numbers : (t : ℕ → Bool) (n : ℕ) → list_any t (range_with_len 0 n) ≡ any t n
 any_numbers t n = any_range t 0 n

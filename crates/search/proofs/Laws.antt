@@ -1,12 +1,11 @@
 -- The law of a search: its loop's invariant is `Passed t n k`; and that of a count. Assumes nothing.
-use Rattle.std.specs.Prelude.{None, Option, Some, is_some}
+use Rattle.std.specs.Prelude.{None, Option, Some}
 use mathlib.Core.Path.{◌≡◌, refl, sym, ap, ◌∙◌}
-use mathlib.Core.Bool.{Bool, true, false, cond, not}
+use mathlib.Core.Bool.{Bool, true, false, cond}
 use Prim.Native.Nat.{ℕ, zero, suc, ◌+◌, ◌-◌, ◌<◌, ◌≤◌}
 use native.Mathlib.Omega.{arith}
 use native.Mathlib.Numerals.{add-one}
-use Rattle.std.proofs.lemmas.Bool.{not-false, not-true}
-use Rattle.search.specs.Search.{first_from, first, every, count}
+use Rattle.search.specs.Search.{first_from, first, count}
 
 first_here : (t : ℕ → Bool) (at n : ℕ) → t at ≡ true → first_from t at (suc n) ≡ Some at
 unfolding first_from
@@ -77,29 +76,6 @@ counted_yes t k n m e y q = q ∙ ap (λ (x : ℕ). x + 1) e ∙ sym (count_yes 
 
 pub counted_no : (t : ℕ → Bool) (k n m : ℕ) → n ≡ count t k → t k ≡ false → m ≡ n → m ≡ count t (k + 1)
 counted_no t k n m e y q = q ∙ e ∙ sym (count_no t k y)
-
--- what a search for a place at which the test fails knows: it holds at each of the k places passed
-pub record Held (t : ℕ → Bool) (n k : ℕ) : Type 0 where
-  pub passed : Passed (λ (i : ℕ). not (t i)) n k
-
-pub held_none : (t : ℕ → Bool) (n : ℕ) → Held t n 0
-held_none t n = record { passed = passed_none _ n }
-
-pub held_more : (t : ℕ → Bool) (n k : ℕ) → k < n → t k ≡ true → Held t n k → Held t n (k + 1)
-held_more t n k p e q = record { passed = passed_more _ n k p (ap not e) q.passed }
-
-pub held_not : (t : ℕ → Bool) (n k : ℕ) → k < n → t k ≡ false → Held t n k → false ≡ every t n
-held_not t n k p e q = ap (λ (f : Option ℕ). not (is_some f)) (passed_here _ n k p (ap not e) q.passed)
-
-pub held_all : (t : ℕ → Bool) (n k : ℕ) → k ≡ n → Held t n k → true ≡ every t n
-held_all t n k p q = ap (λ (f : Option ℕ). not (is_some f)) (passed_all _ n k p q.passed)
-
--- the same turns in a loop that is left where the opposite of the test's value holds
-pub held_tested : (t : ℕ → Bool) (n k : ℕ) (b : Bool) → k < n → b ≡ t k → not b ≡ false → Held t n k → Held t n (k + 1)
-held_tested t n k b p e y q = held_more t n k p (sym e ∙ not-false b y) q
-
-pub held_failed : (t : ℕ → Bool) (n k : ℕ) (b : Bool) → k < n → b ≡ t k → not b ≡ true → Held t n k → false ≡ every t n
-held_failed t n k b p e y q = held_not t n k p (sym e ∙ not-true b y) q
 
 -- two tests that agree at the n places have the same count
 pub count_same : (t u : ℕ → Bool) (n : ℕ) → ((i : ℕ) → i < n → t i ≡ u i) → count t n ≡ count u n

@@ -13,6 +13,7 @@ fn items_sound(known: Known, d: &Delivered) -> bool
     ensures { result ≡
         every (λ (k : ℕ). item_sound known.roster known.stored d.now.count k (item_at d.now k)) delivered_most }
 {
+    // A cast: `usize` has no `From<u32>`.
     let done = d.count as usize;
     used_below(&d.items, done, |_, i| known.names(*i), |i| zero_sending(*i))
 }

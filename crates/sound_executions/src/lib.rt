@@ -35,8 +35,7 @@ fn masks_sound(roster: Roster, sender: u8, x: Execution) -> bool
 fn order_sound(known: Known, x: Execution) -> bool
     ensures { result ≡ order_sound known.roster known.numbered x }
 {
-    let mask = x.mask;
-    let reached = u8::count_ones(mask) == known.roster.threshold();
+    let reached = x.mask.count_ones() == known.roster.threshold();
     if x.number == Execution::UNNUMBERED {
         return !reached;
     }
@@ -50,7 +49,7 @@ fn execution_sound(known: Known, sender: u8, k: usize, x: Execution) -> bool
 {
     masks_sound(known.roster, sender, x)
         & order_sound(known, x)
-        & (!is_correct(known.roster, sender) | (x.id as usize == k.saturating_add(1)))
+        & (!is_correct(known.roster, sender) | (usize::from(x.id) == k.saturating_add(1)))
 }
 
 // Whether every place is sound, used or not.
@@ -60,7 +59,7 @@ fn places_sound(known: Known, sender: u8, t: &Executions) -> bool
         (λ (k : ℕ). place_sound known.roster known.numbered sender t.now.count k (execution_at t.now k))
         executions_most }
 {
-    let made = t.count as usize;
+    let made = usize::from(t.count);
     used_below(
         &t.table,
         made,
@@ -74,7 +73,7 @@ fn ids_differ(t: &Executions) -> bool
     requires { t.now.count ≤ executions_most }
     ensures { result ≡ every (λ (k : ℕ). new_id t.now k) t.now.count }
 {
-    let (used, _) = t.table.split_at(t.count as usize);
+    let (used, _) = t.table.split_at(usize::from(t.count));
     keys_differ(used, |a, b| a.id == b.id)
 }
 
@@ -83,7 +82,7 @@ fn ids_differ(t: &Executions) -> bool
 pub fn executions_sound(known: Known, sender: u8, t: &Executions) -> bool
     ensures { result ≡ executions_sound known.roster known.numbered sender t.now }
 {
-    if Executions::MOST < t.count as usize {
+    if Executions::MOST < usize::from(t.count) {
         return false;
     }
     (known.roster.member(sender) | (t.count == 0)) & places_sound(known, sender, t) & ids_differ(t)

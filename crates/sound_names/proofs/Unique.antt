@@ -26,8 +26,6 @@ use Rattle.sound_names.proofs.naming.Known.names.Kinds as names-kinds
 use Rattle.sound_names.proofs.naming.Known.names.Reads as names-reads
 use Rattle.sound_names.proofs.naming.own_execution.Kinds as own-execution-kinds
 use Rattle.sound_names.proofs.naming.own_execution.Reads as own-execution-reads
-use Rattle.sound_names.proofs.naming.seat.Kinds as seat-kinds
-use Rattle.sound_names.proofs.naming.seat.Reads as seat-reads
 use Rattle.sound_names.proofs.naming.table_of.Kinds as table-of-kinds
 use Rattle.sound_names.proofs.naming.table_of.Reads as table-of-reads
 use Rattle.sound_names.proofs.zeros.zero_entry.Kinds as zero-entry-kinds
@@ -52,9 +50,6 @@ names_unique κs a x y e f p q = p ∙ sym q
 
 pub own_execution_unique : Unique 1 own-execution-kinds.ps own-execution-kinds.r own-execution-reads.Post
 own_execution_unique κs a x y e f p q = p ∙ sym q
-
-pub seat_unique : Unique 0 seat-kinds.ps seat-kinds.r seat-reads.Post
-seat_unique κs a x y e f p q = p ∙ sym q
 
 -- what is lent has one value
 pub table_of_unique : (κs : Lfts 1) (a : Dens κs table-of-kinds.ps) (x y : (res_t table-of-kinds.r κs).Denot) (e f : AtExit (ended_of 1 table-of-kinds.ps table-of-kinds.r) κs) → table-of-reads.Post κs a x e → table-of-reads.Post κs a y f → x.now ≡ y.now

@@ -8,6 +8,6 @@ mod tables;
 mod zeros;
 
 pub use keys::keys_differ;
-pub use naming::{Known, has_execution, is_correct, own_execution, seat, table_of};
+pub use naming::{Known, has_execution, is_correct, own_execution, table_of};
 pub use tables::used_below;
 pub use zeros::{zero_entry, zero_execution, zero_packet, zero_request, zero_sending};

@@ -1,10 +1,9 @@
 // What the sendings of packets, entries and items name: servers, slots and executions.
 ghost use Rattle.std.specs.Prelude.{◌≡◌, is_some};
-ghost use Rattle.world.specs.Boxes.{seat};
 ghost use Rattle.world.specs.Roster.{correct};
 ghost use Rattle.protocol.specs.Names.{names, table_of, own_execution};
 
-use world::{Executions, Roster, Sending, World};
+use world::{Executions, Roster, Sending, World, seat};
 
 // What a world knows when a sending is tested: its servers, how many requests are stored, the numbers given.
 #[derive(Clone, Copy)]
@@ -28,16 +27,6 @@ pub fn is_correct(roster: Roster, server: u8) -> bool
     ensures { result ≡ correct roster server }
 {
     roster.member(server) & !roster.is_faulty(server)
-}
-
-// Where a server's boxes stand; a name that is no server's finds the first.
-pub fn seat(server: u8) -> usize
-    ensures { result ≡ seat server }
-{
-    if server < Roster::MOST {
-        return server as usize;
-    }
-    0
 }
 
 // The executions of a sender.

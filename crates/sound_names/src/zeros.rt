@@ -1,4 +1,5 @@
-// "All zeros": what a free or unused place holds.
+// "All zeros": what a free or unused place holds. A function for each type, since the definitions in protocol's Zeros
+// are one for each, and callers ask by their names.
 ghost use Rattle.std.specs.Prelude.{◌≡◌};
 ghost use Rattle.protocol.specs.Zeros.{zero_request, zero_execution, zero_sending, zero_packet, zero_entry};
 

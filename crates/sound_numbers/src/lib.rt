@@ -26,6 +26,7 @@ fn times(numbers: &[u32; Delivered::MOST], number: u32) -> usize
 pub fn numbers_sound(tables: &[Executions; World::SERVERS], numbered: u32) -> bool
     ensures { result ≡ numbers_sound tables.now numbered }
 {
+    // A cast: `usize` has no `From<u32>`.
     if Delivered::MOST < numbered as usize {
         return false;
     }

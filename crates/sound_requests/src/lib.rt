@@ -33,7 +33,7 @@ fn stored_sound(roster: Roster, q: Request) -> bool
 fn slots_sound(roster: Roster, q: &Requests) -> bool
     ensures { result ≡ every (λ (k : ℕ). slot_sound roster q.now.count k (request_at q.now k)) requests_most }
 {
-    let stored = q.count as usize;
+    let stored = usize::from(q.count);
     used_below(
         &q.slots,
         stored,
@@ -47,7 +47,7 @@ fn digests_differ(q: &Requests) -> bool
     requires { q.now.count ≤ requests_most }
     ensures { result ≡ every (λ (k : ℕ). new_digest q.now k) q.now.count }
 {
-    let (stored, _) = q.slots.split_at(q.count as usize);
+    let (stored, _) = q.slots.split_at(usize::from(q.count));
     keys_differ(stored, |a, b| a.has_digest(b.digest))
 }
 
@@ -56,7 +56,7 @@ fn digests_differ(q: &Requests) -> bool
 pub fn requests_sound(roster: Roster, q: &Requests) -> bool
     ensures { result ≡ requests_sound roster q.now }
 {
-    if Requests::MOST < q.count as usize {
+    if Requests::MOST < usize::from(q.count) {
         return false;
     }
     slots_sound(roster, q) & digests_differ(q)

@@ -4,8 +4,8 @@ ghost use Rattle.protocol.specs.Sound.{server_sound, servers_sound};
 
 use sound_boxes::{delivered_sound, hold_sound, outgoing_sound};
 use sound_executions::executions_sound;
-use sound_names::{Known, seat};
-use world::{Roster, World};
+use sound_names::Known;
+use world::{Roster, World, seat};
 
 // Whether the boxes of a server are sound.
 #[tactic(auto, unfolding(protocol::specs::Sound::server_sound))]

@@ -95,6 +95,8 @@ use Rattle.world.proofs.sending.Sending.none.Kinds as sending-none-kinds
 use Rattle.world.proofs.sending.Sending.none.Reads as sending-none-reads
 use Rattle.world.proofs.World.fresh.Kinds as world-fresh-kinds
 use Rattle.world.proofs.World.fresh.Reads as world-fresh-reads
+use Rattle.world.proofs.seating.seat.Kinds as seat-kinds
+use Rattle.world.proofs.seating.seat.Reads as seat-reads
 use Rattle.world.proofs.seating.within.Kinds as within-kinds
 use Rattle.world.proofs.seating.within.Reads as within-reads
 
@@ -238,6 +240,9 @@ sending_none_unique κs a x y e f p q = p ∙ sym q
 
 pub world_fresh_unique : Unique 0 world-fresh-kinds.ps world-fresh-kinds.r world-fresh-reads.Post
 world_fresh_unique κs a x y e f p q = p ∙ sym q
+
+pub seat_unique : Unique 0 seat-kinds.ps seat-kinds.r seat-reads.Post
+seat_unique κs a x y e f p q = p.0 ∙ sym q.0
 
 pub within_unique : Unique 0 within-kinds.ps within-kinds.r within-reads.Post
 within_unique κs a x y e f p q = p.0 ∙ sym q.0

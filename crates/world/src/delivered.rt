@@ -43,6 +43,7 @@ impl Delivered {
     {
         let mut d = self;
         d.count = self.next();
+        // A cast: `usize` has no `From<u32>`.
         put(&mut d.items, self.count as usize, item);
         d
     }

@@ -119,7 +119,7 @@ impl Executions {
     {
         self.table
             .iter()
-            .take(self.count as usize)
+            .take(usize::from(self.count))
             .position(|x| x.id == id)
     }
 }

@@ -1,7 +1,7 @@
 // The entries that one server holds, each at a stage.
 ghost use Rattle.std.specs.Prelude.{◌≡◌, refl, nat_eq, is_some};
-ghost use Rattle.world.specs.Hold.{entry_of, free_entry, fresh_hold, entry_at, is_entry, holding, is_ready, ready_place};
-ghost use Rattle.world.specs.Hold.{free_hold, entry_added, entry_put};
+ghost use Rattle.world.specs.Hold.{entry_of, free_entry, fresh_hold, entry_at, is_entry, holding, is_ready};
+ghost use Rattle.world.specs.Hold.{ready_place, free_hold, entry_added, entry_put};
 
 use crate::place::{Place, fill, lowest_free, put};
 use crate::sending::Sending;
@@ -90,12 +90,13 @@ impl Hold {
         }
     }
 
-    // The entry at a place; past the places, a free one.
+    // The entry at a place; past the places, a free one. As in `Outgoing`: one chain, which a function of both would
+    // only wrap.
     pub fn at(self, place: u8) -> Entry
         ensures { result ≡ entry_at self place }
     {
         self.places
-            .get(place as usize)
+            .get(usize::from(place))
             .copied()
             .unwrap_or(Entry::free())
     }

@@ -1,7 +1,7 @@
 // The world of document 01's "Sizes": n servers, the requests, the orderer's executions, the packets under way, the
-// held entries and what each server has delivered. Everything is by value, in boxes that a step takes out and puts
-// back. Callers from outside get worlds too (crate `bridge`), so their structs are `repr(C)`: laid out as C lays out a
-// struct of these fields.
+// held entries and what each server has delivered. Its boxes are plain values that a step takes out and puts back.
+// Callers from outside get worlds too (crate `bridge`), so their structs are `repr(C)`: laid out as C lays out a struct
+// of these fields. Each type has its own `fresh`, `unused` or `free`: constructors, a form that document 01 expects.
 #![tactic(auto)]
 
 ghost use Rattle.std.specs.Prelude.{◌≡◌};
@@ -25,9 +25,10 @@ pub use mask::{has, join};
 pub use outgoing::{Outgoing, Packet, recipients};
 pub use request::{Request, Requests, same_digest};
 pub use roster::Roster;
-pub use seating::within;
+pub use seating::{seat, within};
 pub use sending::Sending;
 
+// Four arrays by server and not one of structs: the C interface.
 #[repr(C)]
 #[derive(Clone, Copy)]
 pub struct World {
@@ -45,6 +46,7 @@ pub struct World {
 }
 
 impl World {
+    // A cast here and in `Delivered::MOST`: `usize::from` is not for constants.
     pub const SERVERS: usize = Roster::MOST as usize;
 
     // The world of n servers, the faulty ones given by their mask, before the first step.

@@ -78,7 +78,7 @@ impl Outgoing {
         ensures { result ≡ packet_at self place }
     {
         self.places
-            .get(place as usize)
+            .get(usize::from(place))
             .copied()
             .unwrap_or(Packet::free())
     }
@@ -112,7 +112,7 @@ impl Outgoing {
         ensures { result ≡ packet_freed self place }
     {
         let mut o = self;
-        put(&mut o.places, place as usize, Packet::free());
+        put(&mut o.places, usize::from(place), Packet::free());
         o
     }
 

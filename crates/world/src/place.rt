@@ -16,7 +16,7 @@ pub(crate) trait Place: Copy {
     ghost nothing_is_vacant: { vacant nothing ≡ true };
 }
 
-// The lowest free place.
+// The lowest free place. A loop that yields it by `break`, a form that document 01 expects.
 pub(crate) fn lowest_free<P: Place, const N: usize>(places: &[P; N]) -> Option<usize>
     ensures { result ≡ free_place P.vacant P.nothing places.now N }
 {

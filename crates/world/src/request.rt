@@ -87,7 +87,7 @@ impl Requests {
     {
         self.slots
             .iter()
-            .take(self.count as usize)
+            .take(usize::from(self.count))
             .any(|r| r.has_digest(digest))
     }
 }

@@ -46,7 +46,7 @@ impl Roster {
     pub fn threshold(self) -> u32
         ensures { result ≡ threshold self }
     {
-        self.faults() as u32 + 1
+        u32::from(self.faults()) + 1
     }
 
     // Whether a world may start so: 1 to 8 servers, no stray bit, and at most f faulty ones.
@@ -56,6 +56,6 @@ impl Roster {
         (1 <= self.n)
             & (self.n <= Roster::MOST)
             & !self.strays(self.faulty)
-            & (self.faulty.count_ones() <= self.faults() as u32)
+            & (self.faulty.count_ones() <= u32::from(self.faults()))
     }
 }

@@ -12,4 +12,5 @@ returns c =
     let l : length c.args.t.now.table ≡ 16 = search rules in
     let t = λ (k : ℕ) (x : Execution). execution_sound c.args.known.roster c.args.known.numbered c.args.sender k x in
     c.used_below.ensures t zero_execution no_execution (λ k x r p. search (rules, tests)) (λ x r p. search (rules, tests))
+    ∙ ap (λ n. used_below t zero_execution no_execution c.args.t.now.table n (length c.args.t.now.table)) c.from-made.ensures
     ∙ ap (λ n. used_below t zero_execution no_execution c.args.t.now.table c.args.t.now.count n) l

@@ -12,4 +12,5 @@ returns c =
     let l : length c.args.q.now.slots ≡ 128 = search rules in
     let t = λ (k : ℕ) (x : Request). stored_sound c.args.roster x in
     c.used_below.ensures t zero_request no_request (λ k x r p. search (rules, tests)) (λ x r p. search (rules, tests))
+    ∙ ap (λ n. used_below t zero_request no_request c.args.q.now.slots n (length c.args.q.now.slots)) c.from-stored.ensures
     ∙ ap (λ n. used_below t zero_request no_request c.args.q.now.slots c.args.q.now.count n) l
